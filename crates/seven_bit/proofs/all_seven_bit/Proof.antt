@@ -1,6 +1,6 @@
 use mathlib.Core.Path.{_≡_, refl, _∙_, sym}
 use Prim.Native.Nat.{_-_, _≤_}
-use lib.ListN.{length, drop}
+use lib.ListN.{length, drop, drop-of-length-le}
 use borrow.Author.Needs.{needs}
 use Rattle.seven_bit.proofs.all_seven_bit.Statement.{statement}
 use Rattle.seven_bit.proofs.all_seven_bit.Tie as tie
