@@ -7,7 +7,7 @@ use mathlib.Core.Logic.{_⊎_, inl, inr}
 use mathlib.Core.Path.{_≡_, refl, ap}
 use native.Mathlib.Omega.{arith}
 use lib.Dec.{leb}
-use Rattle.seven_bit.specs.Reply.{Reply, granted, refused, _else_then_, andThen}
+use Rattle.seven_bit.specs.Reply.{Reply, granted, refused, _else_then_, _else_with_then_, andThen}
 
 -- a refusal is no grant
 pub refused-not : {A : Type 0} (number value : ℕ) (a : A) → refused number value ≡ granted a → ⊥
@@ -21,6 +21,10 @@ same-grant r a b p q = cc
 pub asked : {A : Type 0} (b : Bool) (number : ℕ) (next : Reply A) (a : A) → (b else number then next) ≡ granted a → (b ≡ true) × (next ≡ granted a)
 asked true number next a q = (refl, q)
 asked false number next a q = absurd (refused-not number 0 a q)
+
+pub asked-with : {A : Type 0} (b : Bool) (number value : ℕ) (next : Reply A) (a : A) → (b else number with value then next) ≡ granted a → (b ≡ true) × (next ≡ granted a)
+asked-with true number value next a q = (refl, q)
+asked-with false number value next a q = absurd (refused-not number value a q)
 
 -- and what was granted first
 pub first-granted : {A B : Type 0} (r : Reply A) (next : A → Reply B) (b : B) → andThen r next ≡ granted b → (a : A) × (r ≡ granted a) × (next a ≡ granted b)

@@ -1,0 +1,103 @@
+// A console's number: 28 bits.
+use crate::error::CiError;
+ghost use mathlib.Core.Path.{_≡_};
+ghost use Rattle.midici_core.specs.Muid.{muidFrom, ordinaryMuid, isBroadcast, isReserved, readMuid, muidBytes, firstOrdinary, muidTold, generatedTold};
+
+pub struct Muid(pub u32);
+
+pub enum MuidRead {
+    Value(Muid),
+    Refused(CiError),
+}
+
+pub enum Generated {
+    Value(Muid),
+    Nothing,
+}
+
+impl Muid {
+    pub const BROADCAST_VALUE: u32 = 0x0FFF_FFFF;
+    // The first of the values that are reserved.
+    pub const ORDINARY_END: u32 = 0x0FFF_FF00;
+
+    pub fn from_u32(value: u32) -> MuidRead
+        ensures { λ r. ⌜ muidTold r ≡ muidFrom value ⌝ }
+    {
+        if value > Muid::BROADCAST_VALUE {
+            return MuidRead::Refused(CiError::InvalidMuid);
+        }
+        MuidRead::Value(Muid(value))
+    }
+
+    // A number that is neither reserved nor the broadcast's.
+    pub fn ordinary(value: u32) -> MuidRead
+        ensures { λ r. ⌜ muidTold r ≡ ordinaryMuid value ⌝ }
+    {
+        if value >= Muid::ORDINARY_END {
+            return MuidRead::Refused(CiError::InvalidMuid);
+        }
+        MuidRead::Value(Muid(value))
+    }
+
+    pub fn to_u32(self) -> u32
+        ensures { λ r. ⌜ r ≡ self .0 ⌝ }
+    {
+        self.0
+    }
+
+    pub fn is_broadcast(self) -> bool
+        ensures { λ r. ⌜ r ≡ isBroadcast (self .0) ⌝ }
+    {
+        self.0 == Muid::BROADCAST_VALUE
+    }
+
+    pub fn is_reserved(self) -> bool
+        ensures { λ r. ⌜ r ≡ isReserved (self .0) ⌝ }
+    {
+        if self.0 < Muid::ORDINARY_END {
+            return false;
+        }
+        self.0 < Muid::BROADCAST_VALUE
+    }
+
+    // The first ordinary number among the low 28 bits of a generator's words.
+    pub fn generate(words: &[u32]) -> Generated
+        ensures { λ r. ⌜ generatedTold r ≡ firstOrdinary (now (words .entry)) ⌝ }
+    {
+        let mut i = 0;
+        while i < words.len() {
+            let candidate = words[i] % 0x1000_0000;
+            if candidate < Muid::ORDINARY_END {
+                return Generated::Value(Muid(candidate));
+            }
+            i += 1;
+        }
+        Generated::Nothing
+    }
+
+    // Four bytes of seven bits, low one first.
+    pub fn encode_7bit_le(self) -> [u8; 4]
+        ensures { λ r. ⌜ r ≡ muidBytes (self .0) ⌝ }
+    {
+        let v = self.0;
+        [
+            (v % 128) as u8,
+            (v / 128 % 128) as u8,
+            (v / 16_384 % 128) as u8,
+            (v / 2_097_152 % 128) as u8,
+        ]
+    }
+
+    pub fn decode_7bit_le(bytes: &[u8; 4]) -> MuidRead
+        ensures { λ r. ⌜ muidTold r ≡ readMuid (now (bytes .entry)) ⌝ }
+    {
+        if !seven_bit::all_seven_bit(bytes) {
+            return MuidRead::Refused(CiError::BadField);
+        }
+        let b0 = bytes[0];
+        let b1 = bytes[1];
+        let b2 = bytes[2];
+        let b3 = bytes[3];
+        MuidRead::Value(Muid(b0 as u32 + b1 as u32 * 128 + b2 as u32 * 16_384 + b3 as u32 * 2_097_152))
+    }
+}
