@@ -6,9 +6,10 @@ use crate::spec::CI_HEADER_LEN;
 use crate::spec::SUB_ID1_MIDI_CI;
 use crate::spec::UNIVERSAL_NON_REALTIME;
 ghost use mathlib.Core.Path.{_≡_};
+ghost use mathlib.Core.List.{_++_};
 ghost use Prim.Native.Nat.{_+_, _≤_};
 ghost use lib.ListN.{length};
-ghost use Rattle.seven_bit.specs.Parts.{part};
+ghost use Rattle.seven_bit.specs.Parts.{part, put};
 ghost use Rattle.seven_bit.specs.Reply.{outcome, writing};
 ghost use Rattle.midici_core.specs.Header.{readHeader, writeHeader, headerBytes, headerOf, headerTold, encodedTold, within28};
 ghost use Rattle.midici_core.specs.Muid.{readMuid, muidTold};
@@ -102,6 +103,16 @@ impl CiHeader {
             d[2],
             d[3],
         ]
+    }
+
+    // The header and data behind it, at the front of out, which has room for them.
+    pub(crate) fn store(self, data: &[u8], out: &mut [u8])
+        requires { ⌜ 13 + length (now «data») ≤ length (now out) ⌝ }
+        ensures { λ _. ⌜ now (out .exit) ≡ put (now (out .entry)) 0 (headerBytes (headerOf self) ++ now («data» .entry)) ⌝ }
+    {
+        let bytes = self.to_bytes();
+        seven_bit::copy_in(out, 0, &bytes);
+        seven_bit::copy_in(out, CI_HEADER_LEN, data);
     }
 
     pub fn encode(self, out: &mut [u8]) -> Encoded

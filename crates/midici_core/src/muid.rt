@@ -1,6 +1,7 @@
 // A console's number: 28 bits.
 use crate::error::CiError;
 ghost use mathlib.Core.Path.{_≡_};
+ghost use Prim.Native.Nat.{_+_, _*_};
 ghost use Rattle.midici_core.specs.Muid.{muidFrom, ordinaryMuid, isBroadcast, isReserved, readMuid, muidBytes, firstOrdinary, muidTold, generatedTold};
 
 pub struct Muid(pub u32);
@@ -13,6 +14,13 @@ pub enum MuidRead {
 pub enum Generated {
     Value(Muid),
     Nothing,
+}
+
+// The sum of four bytes, each worth 128 times the one before.
+fn join(b0: u8, b1: u8, b2: u8, b3: u8) -> u32
+    ensures { λ r. ⌜ r ≡ b0 + b1 * 128 + b2 * 16384 + b3 * 2097152 ⌝ }
+{
+    b0 as u32 + b1 as u32 * 128 + b2 as u32 * 16_384 + b3 as u32 * 2_097_152
 }
 
 impl Muid {
@@ -94,10 +102,6 @@ impl Muid {
         if !seven_bit::all_seven_bit(bytes) {
             return MuidRead::Refused(CiError::BadField);
         }
-        let b0 = bytes[0];
-        let b1 = bytes[1];
-        let b2 = bytes[2];
-        let b3 = bytes[3];
-        MuidRead::Value(Muid(b0 as u32 + b1 as u32 * 128 + b2 as u32 * 16_384 + b3 as u32 * 2_097_152))
+        MuidRead::Value(Muid(join(bytes[0], bytes[1], bytes[2], bytes[3])))
     }
 }

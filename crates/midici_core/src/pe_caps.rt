@@ -92,9 +92,7 @@ impl PeCapabilities {
         if !seven_bit::all_seven_bit(&values) {
             return Encoded::Refused(CiError::BadField);
         }
-        let bytes = header.to_bytes();
-        seven_bit::copy_in(out, 0, &bytes);
-        seven_bit::copy_in(out, CI_HEADER_LEN, &values[..n]);
+        header.store(&values[..n], out);
         Encoded::Wrote(CI_HEADER_LEN + n)
     }
 }

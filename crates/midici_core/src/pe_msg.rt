@@ -52,9 +52,7 @@ impl PeMessage {
         if out.len() < total {
             return Encoded::Refused(CiError::BufferTooSmall);
         }
-        let bytes = header.to_bytes();
-        seven_bit::copy_in(out, 0, &bytes);
-        seven_bit::copy_in(out, CI_HEADER_LEN, pe_payload);
+        header.store(pe_payload, out);
         Encoded::Wrote(total)
     }
 }

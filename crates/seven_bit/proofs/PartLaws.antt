@@ -75,3 +75,14 @@ pub put-rest : {A : Type 0} (xs : List A) (a : ℕ) (ys : List A) → a + length
 put-rest xs a ys h =
     let n : drop (length xs - a) (drop a xs) ≡ [] = drop-of-length-le (drop a xs) {i = length xs - a} (simp length-drop (omega arith)) in
     rw (put-is xs a ys h, rest a xs, drop-drop (length ys) a xs, n, append-nil, append-assoc)
+
+-- bytes that fit are copied to the front
+pub fit-front : {A : Type 0} (xs ys : List A) → length ys ≤ length xs → putFit xs 0 ys ≡ ys ++ drop (length ys) xs
+fit-front xs ys h = fit-yes xs 0 ys (omega arith) ∙ put-front xs ys h
+
+-- two copies that fit, the second where the first ends, are one store
+pub fit-fit : {A : Type 0} (xs ys zs : List A) (b : ℕ) → length ys ≡ b → b + length zs ≤ length xs → putFit (putFit xs 0 ys) b zs ≡ put xs 0 (ys ++ zs)
+fit-fit {A} xs ys zs b e h =
+    ap (λ (l : List A). putFit l b zs) (fit-yes xs 0 ys (omega arith))
+    ∙ fit-yes (put xs 0 ys) b zs (rw (length-put xs 0 ys) h)
+    ∙ put-put xs 0 ys zs b (omega arith)

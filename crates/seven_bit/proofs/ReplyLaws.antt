@@ -1,13 +1,13 @@
 -- What an answer tells of the questions before it.
 -- Assumes nothing.
 use Prim.Native.Nat.{ℕ}
-use mathlib.Core.Bool.{Bool, true, false, cond}
-use mathlib.Core.List.{List}
+use mathlib.Core.Bool.{Bool, true, false}
+use mathlib.Core.List.{List, _++_}
 use mathlib.Core.Logic.{_⊎_, inl, inr}
-use mathlib.Core.Path.{_≡_, refl, ap}
+use mathlib.Core.Path.{_≡_, refl}
 use native.Mathlib.Omega.{arith}
-use lib.Dec.{leb}
-use Rattle.seven_bit.specs.Reply.{Reply, granted, refused, _else_then_, _else_with_then_, andThen}
+use lib.ListN.{length, drop}
+use Rattle.seven_bit.specs.Reply.{Reply, granted, refused, _else_then_, _else_with_then_, andThen, outcome, writing}
 
 -- a refusal is no grant
 pub refused-not : {A : Type 0} (number value : ℕ) (a : A) → refused number value ≡ granted a → ⊥
@@ -35,3 +35,7 @@ first-granted (refused number value) next b q = absurd (refused-not number value
 pub both : (b : Bool) → (b ≡ true) ⊎ (b ≡ false)
 both true = inl refl
 both false = inr refl
+
+-- what a writer leaves that stored its bytes at the front
+pub wrote : (bytes out after : List ℕ) (n : ℕ) → length bytes ≡ n → after ≡ bytes ++ drop (length bytes) out → outcome (granted n) after ≡ writing (granted bytes) out
+wrote bytes out after n e f = rw (← e, f)

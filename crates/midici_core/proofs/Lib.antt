@@ -1,0 +1,4 @@
+pub mod KindLaws
+pub mod MuidLaws
+pub mod HeaderLaws
+pub mod CapsLaws
