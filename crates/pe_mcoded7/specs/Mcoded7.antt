@@ -34,7 +34,7 @@ groups s = pieces 8 ((length s + 7) / 8) s
 -- Bytes with their top bits back, the first one's from bit b of the flag byte.
 unfoldable pub restored : ℕ → ℕ → List ℕ → List ℕ
 restored flag b [] = []
-restored flag b (d ∷ ds) = d + 128 * (flag / 2 ^ b % 2) ∷ restored flag (b - 1) ds
+restored flag b (d ∷ ds) = (d + 128 * (flag / 2 ^ b % 2)) ∷ restored flag (b - 1) ds
 
 unfoldable pub groupData : List ℕ → List ℕ
 groupData [] = []

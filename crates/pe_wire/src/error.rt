@@ -58,9 +58,20 @@ impl PeError {
     pub fn value(self) -> u8
         ensures { λ r. ⌜ r ≡ peValue self ⌝ }
     {
-        let PeError::Ci(e) = self else {
-            return 0;
-        };
-        e.value()
+        match self {
+            PeError::Ci(e) => e.value(),
+            PeError::BadField => 0,
+            PeError::Truncated => 0,
+            PeError::BufferTooSmall => 0,
+            PeError::HeaderTooLarge => 0,
+            PeError::Oversize => 0,
+            PeError::TooManyConcurrent => 0,
+            PeError::PeerTableFull => 0,
+            PeError::InconsistentChunking => 0,
+            PeError::BadMcoded7 => 0,
+            PeError::ChunkOutOfRange => 0,
+            PeError::BadShape => 0,
+            PeError::DamagedSlot => 0,
+        }
     }
 }

@@ -1,0 +1,4 @@
+pub mod FlagLaws
+pub mod TextLaws
+pub mod AskLaws
+pub mod StoreLaws

@@ -1,0 +1,111 @@
+use mathlib.Core.Path.{_≡_, refl, sym, ap, _∙_}
+use Prim.Native.Nat.{_+_, _-_, _≤_, _/_}
+use lib.ListN.{length, drop, drop-of-length-le, length-take, length-drop}
+use native.Mathlib.Omega.{arith}
+use borrow.Author.Needs.{needs}
+use Rattle.pe_mcoded7.proofs.groups.decode_into.Statement.{statement}
+use Rattle.pe_mcoded7.proofs.groups.decode_into.Tie as tie
+use denote.Ref.{now}
+use Rattle.seven_bit.specs.Parts.{put}
+use Rattle.seven_bit.proofs.PartLaws.{length-put}
+use Rattle.pe_mcoded7.specs.Mcoded7.{decoded}
+use Rattle.pe_mcoded7.proofs.TextLaws.{length-decoded, room-decoded}
+use Rattle.pe_mcoded7.proofs.StoreLaws.{decode-next, decode-end}
+use Rattle.pe_mcoded7.proofs.AskLaws.{seven-bit-take, seven-bit-drop}
+
+abbrev Inv-loop : tie.InvT-loop
+Inv-loop input out₀ i₀ at₀ out i at =
+    (i ≤ length input)
+    × (at + (length input - i) ≤ length out₀ + (length input - i + 7) / 8)
+    × (put out at (decoded (drop i input)) ≡ put out₀ 0 (decoded input))
+    × (length out ≡ length out₀)
+
+abbrev μ-loop : tie.MeasureT-loop
+μ-loop input out₀ i₀ at₀ out i at = length input - i
+
+-- src/groups.rt:126:5
+loop-holds : tie.Need-loop-holds Inv-loop μ-loop
+loop-holds c = (search needs, omega (arith, length-decoded (now (c .before .before .args .input))), refl, refl)
+
+-- src/groups.rt:127:13
+group-end-requires : tie.Need-group-end-requires Inv-loop μ-loop
+group-end-requires c κs = search needs
+
+-- src/groups.rt:128:22
+sub-decode-group : tie.Need-sub-decode-group Inv-loop μ-loop
+sub-decode-group c = search needs
+
+-- src/groups.rt:128:22
+part-decode-group-start : tie.Need-part-decode-group-start Inv-loop μ-loop
+part-decode-group-start c = search needs
+
+-- src/groups.rt:128:22
+part-decode-group-end : tie.Need-part-decode-group-end Inv-loop μ-loop
+part-decode-group-end c = search needs
+
+-- src/groups.rt:128:9
+decode-group-requires : tie.Need-decode-group-requires Inv-loop μ-loop
+decode-group-requires c κs =
+    let s = c .before .before .before .before .before .before .before in
+    let l = c .before .before .before .before .loop in (
+      simp (length-take, length-drop) (omega arith),
+      simp (length-take, length-drop) (omega arith),
+      seven-bit-take (c .before .before .group-end .result - l .i) _ (seven-bit-drop (l .i) (now (s .args .input)) (s .pre .0)),
+      simp (length-take, length-drop) (omega arith),
+    )
+
+-- src/groups.rt:129:15
+sub-at : tie.Need-sub-at Inv-loop μ-loop
+sub-at c = search needs
+
+-- src/groups.rt:129:15
+sub-at-2 : tie.Need-sub-at-2 Inv-loop μ-loop
+sub-at-2 c = search needs
+
+-- src/groups.rt:129:9
+add-at : tie.Need-add-at Inv-loop μ-loop
+add-at c = search needs
+
+-- src/groups.rt:126:5
+loop-less : tie.Need-loop-less Inv-loop μ-loop
+loop-less c = search needs
+
+-- src/groups.rt:126:5
+loop-again : tie.Need-loop-again Inv-loop μ-loop
+loop-again c =
+    let g = c .before .before in
+    let l = g .before .before .before .before .before .loop in
+    let end = g .before .before .before .group-end .result in (
+      search needs,
+      room-decoded _ (l .i) end (l .at) _ (omega arith) (omega arith) (l .inv .1),
+      decode-next (l .out) _ _ (l .at) (l .i) end (omega arith) (omega arith) (g .decode-group .ensures) ∙ l .inv .2,
+      ap length (g .decode-group .ensures) ∙ length-put _ _ _ ∙ l .inv .3,
+    )
+
+-- src/groups.rt:120:1
+same-length : tie.Need-same-length Inv-loop μ-loop
+same-length c = search needs
+
+-- src/groups.rt:120:1
+returns : tie.Need-returns Inv-loop μ-loop
+returns c = sym (decode-end _ _ _ (drop-of-length-le (now (c .before .before .before .before .args .input)) (c .loop-test .left))) ∙ c .before .loop .inv .2
+
+pub decode-into-spec : {M : Type 1} → statement M
+decode-into-spec =
+    tie.close
+    (tie.spec
+    Inv-loop
+    μ-loop
+    loop-holds
+    group-end-requires
+    sub-decode-group
+    part-decode-group-start
+    part-decode-group-end
+    decode-group-requires
+    sub-at
+    sub-at-2
+    add-at
+    loop-less
+    loop-again
+    same-length
+    returns)
