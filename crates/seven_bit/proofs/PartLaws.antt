@@ -9,11 +9,22 @@ use native.Mathlib.Omega.{arith}
 use borrow.Author.Tests.{le-leb, lt-leb}
 use borrow.Rule.Slice.PartMut.{putMid}
 use lib.ListN.{length, getD, take, drop, set, length-drop, length-take, length-append, drop-of-length-le}
-use lib.Seq.{sets, sets-eq, length-sets, take-suc, length-take-le, take-all, take-at, drop-at, drop-drop}
+use lib.Seq.{drop-cons, sets, sets-eq, length-sets, take-suc, length-take-le, take-all, take-at, drop-at, drop-drop}
 use Rattle.seven_bit.specs.Parts.{part, splice, put, putFit}
 
 pub length-part : {A : Type 0} (a k : ℕ) (xs : List A) → a + k ≤ length xs → length (part a k xs) ≡ k
 length-part a k xs h = simp (length-take, length-drop) (omega arith)
+
+-- a part one element after the other
+pub part-none : {A : Type 0} (a : ℕ) (xs : List A) → part a 0 xs ≡ []
+part-none {A} a xs = none (drop a xs)
+  where
+    none : (l : List A) → take 0 l ≡ []
+    none [] = refl
+    none (y ∷ ys) = refl
+
+pub part-next : {A : Type 0} (a k : ℕ) (xs : List A) (d : A) → a < length xs → part a (suc k) xs ≡ getD xs a d ∷ part (a + 1) k xs
+part-next a k xs d h = rw (drop-cons xs a d h, add-one a)
 
 pub length-splice : {A : Type 0} (a k : ℕ) (xs ys : List A) → a + k ≤ length xs → length ys ≡ k → length (splice a k xs ys) ≡ length xs
 length-splice a k xs ys h e = simp (length-append, length-take, length-drop) (omega arith)

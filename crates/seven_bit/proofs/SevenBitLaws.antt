@@ -39,6 +39,18 @@ seven-bit-at [] t i = zero-le
 seven-bit-at (b ∷ bs) t zero = seven-bit-split b bs t .0
 seven-bit-at (b ∷ bs) t (suc i) = seven-bit-at bs (seven-bit-split b bs t .1) i
 
+pub seven-bit-take : (k : ℕ) (s : List ℕ) → isSevenBit s ≡ true → isSevenBit (take k s) ≡ true
+unfolding isSevenBit
+seven-bit-take zero s t = none s
+  where
+    none : (l : List ℕ) → isSevenBit (take 0 l) ≡ true
+    none [] = refl
+    none (b ∷ bs) = refl
+seven-bit-take (suc k) [] t = refl
+seven-bit-take (suc k) (b ∷ bs) t =
+    let h = seven-bit-split b bs t in
+    seven-bit-cons b (take k bs) (h .0) (seven-bit-take k bs (h .1))
+
 -- k bytes stand for a number below 128 ^ k
 pub number-below : (bs : List ℕ) → isSevenBit bs ≡ true → numberOf bs < 128 ^ length bs
 unfolding numberOf
