@@ -177,6 +177,7 @@ caps-fields c rest = go (leb 2 (c .header .version))
   where
     sent : Bool → List ℕ
     sent b = take (cond b 3 1) (c .requests ∷ c .major ∷ c .minor ∷ []) ++ rest
+
     go : (b : Bool) → (getD (sent b) 0 0 ≡ c .requests) × (cond b (getD (sent b) 1 0) 0 ≡ cond b (c .major) 0) × (cond b (getD (sent b) 2 0) 0 ≡ cond b (c .minor) 0)
     go true = (refl, refl, refl)
     go false = (refl, refl, refl)
@@ -276,9 +277,10 @@ pub message-reads-back : (h : Header) (payload : List ℕ) (room : ℕ) (bytes :
 unfolding readMessage
 message-reads-back h payload room bytes q k =
     let w = message-written h payload room bytes q in
-    let l : length (headerBytes h ++ payload) - 13 ≡ length payload = simp (length-append, header-length) (omega arith) in
-    (rw (w .1, header-reads-back h payload (w .0), k, l),
-    rw (w .1) (data-behind h (length payload) payload ∙ take-length payload))
+    let l : length (headerBytes h ++ payload) - 13 ≡ length payload = simp (length-append, header-length) (omega arith) in (
+      rw (w .1, header-reads-back h payload (w .0), k, l),
+      rw (w .1) (data-behind h (length payload) payload ∙ take-length payload),
+    )
 
 pub message-wrong-kind : (h : Header) (payload : List ℕ) (room : ℕ) (bytes : List ℕ) → writeMessage h payload room ≡ granted bytes → carriesChunk (h .kind) ≡ false →
     readMessage bytes ≡ refused 24 (h .kind)

@@ -56,16 +56,18 @@ impl Muid {
     pub fn is_broadcast(self) -> bool
         ensures { λ r. ⌜ r ≡ isBroadcast (self .0) ⌝ }
     {
-        self.0 == Muid::BROADCAST_VALUE
+        let v = self.0;
+        v == Muid::BROADCAST_VALUE
     }
 
     pub fn is_reserved(self) -> bool
         ensures { λ r. ⌜ r ≡ isReserved (self .0) ⌝ }
     {
-        if self.0 < Muid::ORDINARY_END {
+        let v = self.0;
+        if v < Muid::ORDINARY_END {
             return false;
         }
-        self.0 < Muid::BROADCAST_VALUE
+        v < Muid::BROADCAST_VALUE
     }
 
     // The first ordinary number among the low 28 bits of a generator's words.

@@ -31,7 +31,11 @@ pub enum CapsRead {
 fn data_len(version: u8) -> usize
     ensures { λ r. ⌜ r ≡ capsLen version ⌝ }
 {
-    if version >= MESSAGE_FORMAT_VERSION_1_2 { 3 } else { 1 }
+    if version >= MESSAGE_FORMAT_VERSION_1_2 {
+        3
+    } else {
+        1
+    }
 }
 
 fn is_caps(sub_id2: u8) -> bool

@@ -3,14 +3,23 @@ ghost use mathlib.Core.Path.{_≡_};
 ghost use Rattle.midici_core.specs.Kinds.{carriesChunk, kindOf, kindTold};
 
 pub const UNIVERSAL_NON_REALTIME: u8 = 0x7E;
+
 pub const SUB_ID1_MIDI_CI: u8 = 0x0D;
+
 pub const DEVICE_ID_FUNCTION_BLOCK: u8 = 0x7F;
+
 pub const CI_HEADER_LEN: usize = 13;
+
 pub const MESSAGE_FORMAT_VERSION_1_2: u8 = 0x02;
+
 pub const SUB_ID2_PE_CAPS_INQUIRY: u8 = 0x30;
+
 pub const SUB_ID2_PE_CAPS_REPLY: u8 = 0x31;
+
 pub const SUB_ID2_PE_NOTIFY: u8 = 0x3F;
+
 pub const PE_VERSION_MAJOR: u8 = 0x00;
+
 pub const PE_VERSION_MINOR: u8 = 0x00;
 
 // A kind of message: sub-id 2, whether it carries a chunk, and the kind that replies to it, or 0.
@@ -26,15 +35,51 @@ pub enum KindFound {
 }
 
 const KINDS: [Kind; 9] = [
-    Kind { sub_id2: 0x30, chunked: false, reply: 0x31 },
-    Kind { sub_id2: 0x31, chunked: false, reply: 0 },
-    Kind { sub_id2: 0x34, chunked: true, reply: 0x35 },
-    Kind { sub_id2: 0x35, chunked: true, reply: 0 },
-    Kind { sub_id2: 0x36, chunked: true, reply: 0x37 },
-    Kind { sub_id2: 0x37, chunked: true, reply: 0 },
-    Kind { sub_id2: 0x38, chunked: true, reply: 0x39 },
-    Kind { sub_id2: 0x39, chunked: true, reply: 0 },
-    Kind { sub_id2: 0x3F, chunked: true, reply: 0 },
+    Kind {
+        sub_id2: 0x30,
+        chunked: false,
+        reply: 0x31,
+    },
+    Kind {
+        sub_id2: 0x31,
+        chunked: false,
+        reply: 0,
+    },
+    Kind {
+        sub_id2: 0x34,
+        chunked: true,
+        reply: 0x35,
+    },
+    Kind {
+        sub_id2: 0x35,
+        chunked: true,
+        reply: 0,
+    },
+    Kind {
+        sub_id2: 0x36,
+        chunked: true,
+        reply: 0x37,
+    },
+    Kind {
+        sub_id2: 0x37,
+        chunked: true,
+        reply: 0,
+    },
+    Kind {
+        sub_id2: 0x38,
+        chunked: true,
+        reply: 0x39,
+    },
+    Kind {
+        sub_id2: 0x39,
+        chunked: true,
+        reply: 0,
+    },
+    Kind {
+        sub_id2: 0x3F,
+        chunked: true,
+        reply: 0,
+    },
 ];
 
 // The row of a kind.

@@ -3,7 +3,7 @@
 use Prim.Native.Nat.{ℕ, zero, suc, _+_, _-_, _%_, _^_, min, _<_, _≤_}
 use mathlib.Core.Bool.{Bool, true, false}
 use mathlib.Core.List.{List, [], _∷_, _++_}
-use mathlib.Core.Path.{_≡_, refl, sym, ap, _∙_}
+use mathlib.Core.Path.{_≡_, refl, _∙_}
 use native.Mathlib.Omega.{arith}
 use borrow.Author.Tests.{le-leb, lt-leb, leb-true, eq-eqb, ne-eqb, eqb-true}
 use lib.Dec.{leb, eqb}
@@ -19,7 +19,8 @@ use Rattle.pe_mcoded7.specs.Mcoded7.{encoded, writeMcoded7, groups, deco
 use Rattle.pe_mcoded7.proofs.TextLaws.{by-groups, group-is, after-group, groups-none, groups-next}
 
 -- what follows the questions may be put after them
-then-else : {A B : Type 0} (b : Bool) (number : ℕ) (r : Reply A) (r′ : Reply B) (f : A → Reply B) → r′ ≡ andThen r f → (b else number then r′) ≡ andThen (b else number then r) f
+then-else : {A B : Type 0} (b : Bool) (number : ℕ) (r : Reply A) (r′ : Reply B) (f : A → Reply B) → r′ ≡ andThen r f
+    → (b else number then r′) ≡ andThen (b else number then r) f
 then-else true number r r′ f e = e
 then-else false number r r′ f e = refl
 
@@ -30,7 +31,8 @@ then-group g r r′ f e =
     (then-else (isSevenBit g) 1 _ _ f
     (then-else (eqb (getD g 0 0 % 2 ^ (8 - length g)) 0) 9 r r′ f e))
 
-then-groups : {A B : Type 0} (gs : List (List ℕ)) (r : Reply A) (r′ : Reply B) (f : A → Reply B) → r′ ≡ andThen r f → askGroups gs r′ ≡ andThen (askGroups gs r) f
+then-groups : {A B : Type 0} (gs : List (List ℕ)) (r : Reply A) (r′ : Reply B) (f : A → Reply B) → r′ ≡ andThen r f
+    → askGroups gs r′ ≡ andThen (askGroups gs r) f
 unfolding askGroups
 then-groups [] r r′ f e = e
 then-groups (g ∷ gs) r r′ f e = then-group g (askGroups gs r) (askGroups gs r′) f (then-groups gs r r′ f e)
@@ -44,7 +46,8 @@ pub group-high : {A : Type 0} (g : List ℕ) (next : Reply A) → 2 ≤ length g
 unfolding askGroup
 group-high g next h l = rw (le-leb _ _ h, l)
 
-pub group-spare : {A : Type 0} (g : List ℕ) (next : Reply A) → 2 ≤ length g → isSevenBit g ≡ true → (getD g 0 0 % 2 ^ (8 - length g) ≡ 0 → ⊥) → askGroup g next ≡ refused 9 0
+pub group-spare : {A : Type 0} (g : List ℕ) (next : Reply A) → 2 ≤ length g → isSevenBit g ≡ true → (getD g 0 0 % 2 ^ (8 - length g) ≡ 0 → ⊥)
+    → askGroup g next ≡ refused 9 0
 unfolding askGroup
 group-spare g next h l n = rw (le-leb _ _ h, l, ne-eqb _ _ n)
 
@@ -64,7 +67,8 @@ pub told-refused : (r : Encoded) (e : PeError) (next : Reply ℕ) → r ≡ Enco
 told-refused r e next q = rw q
 
 -- the group that starts at i, and those after it
-pub check-next : (s : List ℕ) (i end : ℕ) (r : Reply ℕ) → i < length s → end ≡ i + min 8 (length s - i) → r ≡ askGroup (take (end - i) (drop i s)) (granted 0) → askText (drop i s) ≡ andThen r (λ _. askText (drop end s))
+pub check-next : (s : List ℕ) (i end : ℕ) (r : Reply ℕ) → i < length s → end ≡ i + min 8 (length s - i)
+    → r ≡ askGroup (take (end - i) (drop i s)) (granted 0) → askText (drop i s) ≡ andThen r (λ _. askText (drop end s))
 unfolding askGroups
 check-next s i end r h e q =
     let p : 0 < length (drop i s) = omega (arith, length-drop i s) in
@@ -128,7 +132,8 @@ group-told g next a q =
     (record { long = leb-true 2 (length g) (x .0); low = y .0; unspared = eqb-true _ 0 (z .0) }, z .1)
 
 -- and of the groups of a text: the first, and the rest
-pub groups-told : {A : Type 0} (s : List ℕ) (next : Reply A) (a : A) → 0 < length s → askGroups (groups s) next ≡ granted a → Group (take 8 s) × (askGroups (groups (drop 8 s)) next ≡ granted a)
+pub groups-told : {A : Type 0} (s : List ℕ) (next : Reply A) (a : A) → 0 < length s → askGroups (groups s) next ≡ granted a
+    → Group (take 8 s) × (askGroups (groups (drop 8 s)) next ≡ granted a)
 unfolding askGroups
 groups-told s next a h q = group-told (take 8 s) _ a (rw (groups-next s h) at q)
 

@@ -1,7 +1,7 @@
 -- The laws of the loops' stores: what is stored and what is left to store make the whole.
 -- Assumes nothing.
 use Prim.Native.Nat.{ℕ, suc, _+_, _-_, _*_, _/_, _%_, min, _<_, _≤_}
-use mathlib.Core.List.{List, [], _∷_, _++_, map}
+use mathlib.Core.List.{List, [], _∷_, map}
 use mathlib.Core.Path.{_≡_, refl, sym, ap, _∙_}
 use native.Mathlib.Numerals.{add-one}
 use native.Mathlib.Omega.{arith}
@@ -32,7 +32,8 @@ unfolding put
 put-first xs ys a y = rw (add-one a)
 
 -- the byte before those whose low bits are stored, and before those whose flags are gathered
-pub low-before : (out g : List ℕ) (a b i j : ℕ) → b ≡ suc a → i ≡ suc j → j < length g → set (put out b (map (λ (d : ℕ). d % 128) (drop i g))) a (getD g j 0 % 128) ≡ put out a (map (λ (d : ℕ). d % 128) (drop j g))
+pub low-before : (out g : List ℕ) (a b i j : ℕ) → b ≡ suc a → i ≡ suc j → j < length g
+    → set (put out b (map (λ (d : ℕ). d % 128) (drop i g))) a (getD g j 0 % 128) ≡ put out a (map (λ (d : ℕ). d % 128) (drop j g))
 low-before out g a b i j e e′ h = rw (e′, drop-cons g j 0 h) (put-before out _ a b (getD g j 0 % 128) e)
 
 pub flags-before : (g : List ℕ) (i j : ℕ) → i ≡ suc j → j < length g → length g ≤ 7 → flags 6 (drop i g) / 2 + getD g j 0 / 128 * 64 ≡ flags 6 (drop j g)
@@ -41,15 +42,19 @@ flags-before g i j e h l =
     rw (e, drop-cons g j 0 h) (sym (flags-next (getD g j 0) (drop (suc j) g) n))
 
 -- the flag byte before them all
-pub group-stored : (out g : List ℕ) (a b i : ℕ) → b ≡ suc a → i ≡ 0 → set (put out b (map (λ (d : ℕ). d % 128) (drop i g))) a (flags 6 (drop i g)) ≡ put out a (groupBytes g)
+pub group-stored : (out g : List ℕ) (a b i : ℕ) → b ≡ suc a → i ≡ 0
+    → set (put out b (map (λ (d : ℕ). d % 128) (drop i g))) a (flags 6 (drop i g)) ≡ put out a (groupBytes g)
 unfolding groupBytes
 group-stored out g a b i e z = rw z (put-before out (map (λ (d : ℕ). d % 128) g) a b (flags 6 g) e)
 
 -- a group of a list, and the text of what follows it
-pub encode-next : (out after xs : List ℕ) (at i end : ℕ) → i < length xs → end ≡ i + min 7 (length xs - i) → after ≡ put out at (groupBytes (take (end - i) (drop i xs))) → put after (at + (1 + (end - i))) (encoded (drop end xs)) ≡ put out at (encoded (drop i xs))
+pub encode-next : (out after xs : List ℕ) (at i end : ℕ) → i < length xs → end ≡ i + min 7 (length xs - i)
+    → after ≡ put out at (groupBytes (take (end - i) (drop i xs)))
+    → put after (at + (1 + (end - i))) (encoded (drop end xs)) ≡ put out at (encoded (drop i xs))
 encode-next out after xs at i end h e q =
     let p : 0 < length (drop i xs) = omega (arith, length-drop i xs) in
-    let n : at + (1 + (end - i)) ≡ at + length (groupBytes (take 7 (drop i xs))) = omega (arith, length-group-bytes (take 7 (drop i xs)), length-take 7 (drop i xs), length-drop i xs) in
+    let n : at + (1 + (end - i)) ≡ at + length (groupBytes (take 7 (drop i xs))) =
+    omega (arith, length-group-bytes (take 7 (drop i xs)), length-take 7 (drop i xs), length-drop i xs) in
     rw (q, group-is 7 i end xs e, after-group 7 i end xs e, encoded-next (drop i xs) p)
     (put-put out at (groupBytes (take 7 (drop i xs))) (encoded (drop 7 (drop i xs))) _ n)
 
@@ -57,7 +62,8 @@ pub encode-end : (out xs : List ℕ) (at : ℕ) → xs ≡ [] → put out at (en
 encode-end out xs at e = rw (e, encoded-none) (put-none out at)
 
 -- a byte of a group, and those after it with the flags moved up
-pub restore-next : (out g : List ℕ) (a f i : ℕ) → f ≤ 127 → 1 ≤ i → i < length g → length g ≤ 8 → put (set out a (getD g i 0 + f / 64 * 128)) (a + 1) (restored (f % 64 * 2) 6 (drop (i + 1) g)) ≡ put out a (restored f 6 (drop i g))
+pub restore-next : (out g : List ℕ) (a f i : ℕ) → f ≤ 127 → 1 ≤ i → i < length g → length g ≤ 8
+    → put (set out a (getD g i 0 + f / 64 * 128)) (a + 1) (restored (f % 64 * 2) 6 (drop (i + 1) g)) ≡ put out a (restored f 6 (drop i g))
 restore-next out g a f i k p h l =
     let n : length (drop (suc i) g) ≤ 6 = omega (arith, length-drop (suc i) g) in
     rw (add-one i, drop-cons g i 0 h, restored-next f (getD g i 0) (drop (suc i) g) k n)
@@ -73,10 +79,13 @@ unfolding restored
 restore-end out ds a f e = rw e (put-none out a)
 
 -- a group of a text, and the bytes of what follows it
-pub decode-next : (out after s : List ℕ) (at i end : ℕ) → i < length s → end ≡ i + min 8 (length s - i) → after ≡ put out at (groupData (take (end - i) (drop i s))) → put after (at + (end - i - 1)) (decoded (drop end s)) ≡ put out at (decoded (drop i s))
+pub decode-next : (out after s : List ℕ) (at i end : ℕ) → i < length s → end ≡ i + min 8 (length s - i)
+    → after ≡ put out at (groupData (take (end - i) (drop i s)))
+    → put after (at + (end - i - 1)) (decoded (drop end s)) ≡ put out at (decoded (drop i s))
 decode-next out after s at i end h e q =
     let p : 0 < length (drop i s) = omega (arith, length-drop i s) in
-    let n : at + (end - i - 1) ≡ at + length (groupData (take 8 (drop i s))) = omega (arith, length-group-data (take 8 (drop i s)), length-take 8 (drop i s), length-drop i s) in
+    let n : at + (end - i - 1) ≡ at + length (groupData (take 8 (drop i s))) =
+    omega (arith, length-group-data (take 8 (drop i s)), length-take 8 (drop i s), length-drop i s) in
     rw (q, group-is 8 i end s e, after-group 8 i end s e, decoded-next (drop i s) p)
     (put-put out at (groupData (take 8 (drop i s))) (decoded (drop 8 (drop i s))) _ n)
 
@@ -84,5 +93,6 @@ pub decode-end : (out s : List ℕ) (at : ℕ) → s ≡ [] → put out at (deco
 decode-end out s at e = rw (e, decoded-none) (put-none out at)
 
 -- what was put at the front is what a writer leaves
-pub put-written : (r : Reply (List ℕ)) (bs out after : List ℕ) (n : ℕ) → r ≡ granted bs → length bs ≡ n → n ≤ length out → after ≡ put out 0 bs → outcome (granted n) after ≡ writing r out
+pub put-written : (r : Reply (List ℕ)) (bs out after : List ℕ) (n : ℕ) → r ≡ granted bs → length bs ≡ n → n ≤ length out → after ≡ put out 0 bs
+    → outcome (granted n) after ≡ writing r out
 put-written r bs out after n q e h p = rw (q, p, ← e) (ap (outcome (granted (length bs))) (put-front out bs (omega arith)))

@@ -1,7 +1,7 @@
 -- The laws of texts and their groups: the first group and what follows, and the lengths.
 -- Assumes nothing.
-use Prim.Native.Nat.{ℕ, zero, suc, _+_, _-_, _*_, _/_, _%_, min, _<_, _≤_}
-use mathlib.Core.List.{List, [], _∷_, _++_, map}
+use Prim.Native.Nat.{ℕ, zero, suc, _+_, _-_, _/_, _%_, min, _<_, _≤_}
+use mathlib.Core.List.{List, [], _∷_, _++_}
 use mathlib.Core.Logic.{⊎-elim}
 use mathlib.Core.Path.{_≡_, refl, sym, ap, _∙_}
 use native.Mathlib.Nat.{le-refl}
@@ -116,8 +116,10 @@ length-decoded =
     (omega (arith, length-take 8 s, length-drop 8 s)))
 
 -- the room that is left for what follows a group
-pub room-encoded : (n i end at room : ℕ) → i < n → end ≡ i + min 7 (n - i) → at + (n - i + (n - i + 6) / 7) ≤ room → at + (1 + (end - i)) + (n - end + (n - end + 6) / 7) ≤ room
+pub room-encoded : (n i end at room : ℕ) → i < n → end ≡ i + min 7 (n - i) → at + (n - i + (n - i + 6) / 7) ≤ room
+    → at + (1 + (end - i)) + (n - end + (n - end + 6) / 7) ≤ room
 room-encoded n i end at room h e l = omega arith
 
-pub room-decoded : (n i end at room : ℕ) → i < n → end ≡ i + min 8 (n - i) → at + (n - i) ≤ room + (n - i + 7) / 8 → at + (end - i - 1) + (n - end) ≤ room + (n - end + 7) / 8
+pub room-decoded : (n i end at room : ℕ) → i < n → end ≡ i + min 8 (n - i) → at + (n - i) ≤ room + (n - i + 7) / 8
+    → at + (end - i - 1) + (n - end) ≤ room + (n - end + 7) / 8
 room-decoded n i end at room h e l = omega arith

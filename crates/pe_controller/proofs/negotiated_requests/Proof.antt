@@ -7,7 +7,8 @@ use lib.Dec.{leb}
 use Rattle.pe_controller.proofs.ControllerLaws.{smaller-first, smaller-second, settled-one, settled-smaller}
 
 -- what the first test settles
-smaller-is : (c : tie.Joined1) → cond (leb (c .before .args .ours) (c .before .args .theirs)) (c .before .args .ours) (c .before .args .theirs) ≡ c .if1 .smaller
+smaller-is : (c : tie.Joined1)
+    → cond (leb (c .before .args .ours) (c .before .args .theirs)) (c .before .args .ours) (c .before .args .theirs) ≡ c .if1 .smaller
 smaller-is c = ⊎-elim (λ w. smaller-first _ _ _ (w .0 .taken) (w .1)) (λ w. smaller-second _ _ _ (w .0 .left) (w .1)) (c .if1 .came)
 
 -- src/lib.rt:38:1

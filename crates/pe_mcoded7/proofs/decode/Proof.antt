@@ -13,7 +13,8 @@ use Rattle.pe_mcoded7.proofs.AskLaws.{askText, groups-low, read-refused
 use Rattle.pe_mcoded7.proofs.StoreLaws.{put-written}
 
 -- the check found nothing
-checked : (c : tie.After-enum-told) → askText (now (c .before .before .before .before .before .args .input)) ≡ encodedTold (Encoded.Wrote (c .enum-told .given .0 .0))
+checked : (c : tie.After-enum-told)
+    → askText (now (c .before .before .before .before .before .args .input)) ≡ encodedTold (Encoded.Wrote (c .enum-told .given .0 .0))
 checked c = sym (c .before .before .check .ensures) ∙ ap encodedTold (c .enum-told .given .1)
 
 -- src/lib.rt:32:9
@@ -66,7 +67,8 @@ returns-3 c =
     let b = c .before .before .before .before in
     let a = b .before .before .before .before .before .before .args in
     let l = length-decoded (now (a .input)) in
-    put-written _ _ (now (a .out)) _ _ (read-granted (now (a .input)) (length (now (a .out))) _ (checked (b .before)) (omega arith)) l (b .if1 .left) (c .before .before .decode-into .ensures)
+    let q = read-granted (now (a .input)) (length (now (a .out))) _ (checked (b .before)) (omega arith) in
+    put-written _ _ (now (a .out)) _ _ q l (b .if1 .left) (c .before .before .decode-into .ensures)
 
 pub decode-spec : {M : Type 1} → statement M
 decode-spec =

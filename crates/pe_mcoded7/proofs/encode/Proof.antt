@@ -36,7 +36,8 @@ returns-2 c =
     let b = c .before .before .before .before in
     let a = b .before .before .before .args in
     let l = length-encoded (now (a .input)) in
-    put-written _ _ (now (a .out)) _ _ (write-granted (now (a .input)) (length (now (a .out))) (omega arith)) l (b .if1 .left) (c .before .before .encode-into .ensures)
+    let q = write-granted (now (a .input)) (length (now (a .out))) (omega arith) in
+    put-written _ _ (now (a .out)) _ _ q l (b .if1 .left) (c .before .before .encode-into .ensures)
 
 pub encode-spec : {M : Type 1} → statement M
 encode-spec =

@@ -1,10 +1,11 @@
 use mathlib.Core.Path.{_≡_, refl, sym, _∙_}
-use Prim.Native.Nat.{_-_, _≤_}
+use Prim.Native.Nat.{ℕ, _-_, _≤_}
 use lib.ListN.{length, drop, drop-of-length-le}
 use native.Mathlib.Omega.{arith}
 use borrow.Author.Needs.{needs}
 use Rattle.pe_mcoded7.proofs.groups.check.Statement.{statement}
 use Rattle.pe_mcoded7.proofs.groups.check.Tie as tie
+use mathlib.Core.List.{List}
 use denote.Ref.{now}
 use Rattle.pe_wire.specs.Wire.{encodedTold}
 use Rattle.pe_mcoded7.proofs.AskLaws.{askText, check-next, check-end, told-wrote, told-refused}
@@ -16,10 +17,12 @@ Inv-loop input i₀ i = (i ≤ length input) × (askText input ≡ askText (drop
 abbrev μ-loop : tie.MeasureT-loop
 μ-loop input i₀ i = length input - i
 
--- the answer of the text is that of the group, and then that of what follows it
+abbrev text : tie.After-check-group Inv-loop μ-loop → List ℕ
+text c = now (c .before .before .before .before .before .before .args .input)
+
+-- its answer is that of the group, and then that of what follows the group
 answer : (c : tie.After-check-group Inv-loop μ-loop)
-    → askText (now (c .before .before .before .before .before .before .args .input))
-    ≡ andThen (encodedTold (c .check-group .result)) (λ _. askText (drop (c .before .before .group-end .result) (now (c .before .before .before .before .before .before .args .input))))
+    → askText (text c) ≡ andThen (encodedTold (c .check-group .result)) (λ _. askText (drop (c .before .before .group-end .result) (text c)))
 answer c =
     let l = c .before .before .before .before .loop in
     l .inv .1 ∙ check-next _ (l .i) (c .before .before .group-end .result) _ (omega arith) (omega arith) (c .check-group .ensures)

@@ -11,7 +11,7 @@ returns c = rw (lt-leb _ _ (c .if1 .taken))
 -- src/muid.rt:54:5
 returns-2 : tie.Need-returns-2
 unfolding isReserved
-returns-2 c = rw (le-leb _ _ (c .before .if1 .left))
+returns-2 c = rw (le-leb _ _ (c .if1 .left))
 
 pub is-reserved-spec : {M : Type 1} → statement M
 is-reserved-spec = tie.close (tie.spec returns returns-2)
