@@ -1,0 +1,11 @@
+//! Stand-in for midici-pe's lib.rs, which is not at hand: the original files, unchanged, where layout.sh puts them.
+#![no_std]
+extern crate alloc;
+
+pub mod controller;
+#[path = "../../../../target/oracle/crates/midici-pe/src/error.rs"]
+pub mod error;
+#[path = "../../../../target/oracle/crates/midici-pe/src/mcoded7.rs"]
+pub mod mcoded7;
+#[path = "../../../../target/oracle/crates/midici-pe/src/wire.rs"]
+pub mod wire;

@@ -1,0 +1,76 @@
+//! Writes the list that the program `replay` plays: `vectors DIR` writes DIR/stdin, records of a function's byte, the
+//! length of its input in two bytes, low one first, and the input; and DIR/stdout, the original's answer to each on a line.
+use oracle::case::Case;
+use oracle::op::Op;
+use oracle::outcome::{Answer, Outcome};
+use oracle::random::Rng;
+use oracle::{original, random};
+use std::collections::{BTreeMap, BTreeSet};
+
+/// What the program's output holds before a call, and how long an input may be.
+const FILL: u8 = 0xEE;
+const LONGEST: usize = 120;
+
+/// How many cases there are of each answer of a function, and how many are tried to find them.
+const OF_EACH: usize = 6;
+const TRIES: usize = 20_000;
+
+/// The refusals of the functions that are compared.
+const REFUSALS: [u8; 12] = [1, 2, 3, 9, 21, 22, 23, 24, 25, 26, 27, 28];
+
+fn answer(case: &Case) -> Outcome {
+    original::answer(case, case.lent(|_| FILL))
+}
+
+/// Document 01's examples of these functions, and the ends of the counter and of the requests.
+fn examples() -> Vec<Case> {
+    let examples: [(Op, &[u8]); 16] = [
+        (Op::ReadU14Le7, &[0x68, 0x07]),
+        (Op::ReadU14Le7, &[0x80, 0x00]),
+        (Op::WriteU14Le7, &[2, 0, 0xFF, 0x3F]),
+        (Op::WriteU14Le7, &[2, 0, 0x00, 0x40]),
+        (Op::MuidDecode7bitLe, &[0x7F, 0x7F, 0x7F, 0x7F]),
+        (Op::Mcoded7Decode, &[1, 0, 0x40, 0x01]),
+        (Op::Mcoded7Encode, &[2, 0, 0x81]),
+        (Op::AllocOutRequestId, &[0]),
+        (Op::AllocOutRequestId, &[126]),
+        (Op::AllocOutRequestId, &[127]),
+        (Op::AllocOutRequestId, &[128]),
+        (Op::AllocOutRequestId, &[255]),
+        (Op::NegotiatedRequests, &[0, 0]),
+        (Op::NegotiatedRequests, &[4, 0]),
+        (Op::NegotiatedRequests, &[4, 3]),
+        (Op::NegotiatedRequests, &[4, 255]),
+    ];
+    examples.iter().map(|(op, input)| Case { op: *op, input: input.to_vec() }).collect()
+}
+
+/// Random cases of a function, with each of its answers as often as `OF_EACH` says.
+fn sample(op: Op) -> Vec<Case> {
+    let mut rng = Rng::new(u64::from(op.code()));
+    let mut seen = BTreeSet::new();
+    let mut taken: BTreeMap<Answer, usize> = BTreeMap::new();
+    let cases = (0..TRIES).map(|_| random::case(op, &mut rng));
+    let new = cases.filter(|case| case.input.len() <= LONGEST && seen.insert(case.input.clone()));
+    new.filter(|case| {
+        let n = taken.entry(answer(case).answer(op)).or_default();
+        *n += 1;
+        *n <= OF_EACH
+    })
+    .collect()
+}
+
+fn record(case: &Case) -> Vec<u8> {
+    let length = (case.input.len() as u16).to_le_bytes();
+    [&[case.op.code()], &length[..], &case.input].concat()
+}
+
+fn main() -> std::io::Result<()> {
+    let dir = std::env::args().nth(1).expect("usage: vectors DIR");
+    let cases: Vec<Case> = examples().into_iter().chain(Op::ALL.into_iter().flat_map(sample)).collect();
+    let answers: Vec<Outcome> = cases.iter().map(answer).collect();
+    let refusals: BTreeSet<u8> = answers.iter().filter_map(|answer| answer.reply.as_ref().err()).map(|r| r.number).collect();
+    assert_eq!(refusals, BTreeSet::from(REFUSALS), "every refusal is in the list");
+    std::fs::write(format!("{dir}/stdin"), cases.iter().flat_map(record).collect::<Vec<u8>>())?;
+    std::fs::write(format!("{dir}/stdout"), answers.iter().map(|answer| format!("{answer}\n")).collect::<String>())
+}

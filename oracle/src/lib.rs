@@ -1,0 +1,7 @@
+//! The original's side of the comparison: the functions that are compared, their inputs as bytes, and the original's answers.
+pub mod case;
+pub mod exhaustive;
+pub mod op;
+pub mod original;
+pub mod outcome;
+pub mod random;
