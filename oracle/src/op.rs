@@ -77,6 +77,12 @@ impl Op {
         self as u8 + 1
     }
 
+    /// Has it so few inputs that all are compared?
+    pub fn all_compared(self) -> bool {
+        use Op::*;
+        matches!(self, IsPeChunkedSubId | KindOf | FirstRequestId | AllocOutRequestId | NegotiatedRequests)
+    }
+
     /// Does it write into a lent output?
     pub fn writes(self) -> bool {
         use Op::*;

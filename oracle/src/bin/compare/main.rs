@@ -1,5 +1,5 @@
-//! Compares the port with the original: `compare SEED CASES`. All inputs where they are few, else those at the boundaries,
-//! and then CASES random ones for each function. It stops at the first difference.
+//! Compares the port with the original: `compare SEED CASES`. All inputs of a function where they are few; else all that are
+//! short or at the boundaries, and then CASES random ones. It stops at the first difference.
 mod port;
 
 use oracle::case::Case;
@@ -37,7 +37,8 @@ impl Tally {
 
     fn line(&self, op: Op) -> String {
         let answers: Vec<String> = self.answers.iter().map(|(answer, n)| format!("{answer}: {n}")).collect();
-        format!("{:20} {:>9}   {}", format!("{op:?}"), self.compared, answers.join(", "))
+        let all = if op.all_compared() { ", all inputs" } else { "" };
+        format!("{:20} {:>9}   {}{all}", format!("{op:?}"), self.compared, answers.join(", "))
     }
 }
 
@@ -52,6 +53,7 @@ fn compare(op: Op, seed: u64, cases: u64) -> Result<Tally, String> {
     });
     result?;
     let mut rng = Rng::new(seed ^ u64::from(op.code()) << 56);
+    let cases = if op.all_compared() { 0 } else { cases };
     for _ in 0..cases {
         tally.compare(&random::case(op, &mut rng))?;
     }
@@ -66,7 +68,7 @@ fn number(args: &[String], at: usize) -> Result<u64, String> {
 fn run() -> Result<u64, String> {
     let args: Vec<String> = std::env::args().collect();
     let (seed, cases) = (number(&args, 1)?, number(&args, 2)?);
-    println!("The port and the original, seed {seed}, {cases} random cases for each function");
+    println!("The port and the original, seed {seed}, {cases} random cases for each function but those with all inputs");
     let mut total = 0;
     for op in Op::ALL {
         let tally = compare(op, seed, cases)?;

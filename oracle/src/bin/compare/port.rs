@@ -6,9 +6,14 @@ use oracle::outcome::{Outcome, Refusal, Reply};
 /// The structs and the functions as crates/codec_exports declares them.
 mod ffi {
     #[repr(C)]
-    pub struct Answer {
-        pub refusal: u8,
+    pub struct Refusal {
+        pub number: u8,
         pub value: u8,
+    }
+
+    #[repr(C)]
+    pub struct Answer {
+        pub refusal: Refusal,
         pub number: u64,
     }
 
@@ -23,8 +28,7 @@ mod ffi {
 
     #[repr(C)]
     pub struct HeaderAnswer {
-        pub refusal: u8,
-        pub value: u8,
+        pub refusal: Refusal,
         pub header: HeaderFields,
     }
 
@@ -38,15 +42,13 @@ mod ffi {
 
     #[repr(C)]
     pub struct CapsAnswer {
-        pub refusal: u8,
-        pub value: u8,
+        pub refusal: Refusal,
         pub caps: CapsFields,
     }
 
     #[repr(C)]
     pub struct MessageAnswer {
-        pub refusal: u8,
-        pub value: u8,
+        pub refusal: Refusal,
         pub header: HeaderFields,
         pub payload_at: u64,
         pub payload_len: u64,
@@ -135,17 +137,18 @@ pub fn answer(case: &Case, mut out: Vec<u8>) -> Outcome {
 }
 
 /// The values, where the refusal's number is 0. With a refusal every value is 0.
-fn reply(refusal: u8, value: u8, values: Vec<u64>) -> Reply {
-    if refusal == 0 {
+fn reply(refusal: ffi::Refusal, values: Vec<u64>) -> Reply {
+    let ffi::Refusal { number, value } = refusal;
+    if number == 0 {
         assert_eq!(value, 0);
         return Ok(values);
     }
     assert!(values.iter().all(|v| *v == 0));
-    Err(Refusal { number: refusal, value })
+    Err(Refusal { number, value })
 }
 
 fn number(answer: ffi::Answer) -> Reply {
-    reply(answer.refusal, answer.value, vec![answer.number])
+    reply(answer.refusal, vec![answer.number])
 }
 
 type Copying = unsafe extern "C" fn(*const u8, usize, *mut u8, usize) -> ffi::Answer;
@@ -177,7 +180,7 @@ fn header(input: &[u8]) -> ffi::HeaderFields {
 
 fn header_decode(body: &[u8]) -> Reply {
     let answer = unsafe { ffi::codec_header_decode(body.as_ptr(), body.len()) };
-    reply(answer.refusal, answer.value, fields(answer.header).values())
+    reply(answer.refusal, fields(answer.header).values())
 }
 
 fn kind_of(kind: u8) -> Vec<u64> {
@@ -196,18 +199,18 @@ fn caps(input: &[u8]) -> ffi::CapsFields {
 }
 
 fn caps_decode(body: &[u8]) -> Reply {
-    let ffi::CapsAnswer { refusal, value, caps } = unsafe { ffi::codec_caps_decode(body.as_ptr(), body.len()) };
+    let ffi::CapsAnswer { refusal, caps } = unsafe { ffi::codec_caps_decode(body.as_ptr(), body.len()) };
     let mut values = fields(caps.header).values();
     values.extend([caps.simultaneous_requests, caps.pe_major, caps.pe_minor].map(u64::from));
-    reply(refusal, value, values)
+    reply(refusal, values)
 }
 
 /// The payload is shown as the output.
 fn message_decode(body: &[u8]) -> Outcome {
     let answer = unsafe { ffi::codec_message_decode(body.as_ptr(), body.len()) };
     let payload = from(body, answer.payload_at as usize).get(..answer.payload_len as usize);
-    let out = if answer.refusal == 0 { payload.expect("a part of the body").to_vec() } else { Vec::new() };
-    Outcome { reply: reply(answer.refusal, answer.value, fields(answer.header).values()), out }
+    let out = if answer.refusal.number == 0 { payload.expect("a part of the body").to_vec() } else { Vec::new() };
+    Outcome { reply: reply(answer.refusal, fields(answer.header).values()), out }
 }
 
 fn message_encode(input: &[u8], out: &mut [u8]) -> Reply {

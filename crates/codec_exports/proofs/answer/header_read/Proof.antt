@@ -1,0 +1,46 @@
+use borrow.Author.Needs.{needs}
+use Rattle.codec_exports.proofs.answer.header_read.Statement.{statement}
+use Rattle.codec_exports.proofs.answer.header_read.Tie as tie
+use Rattle.midici_core.specs.declared.header.HeaderRead.{HeaderRead}
+use Rattle.midici_core.specs.Header.{headerTold}
+use Rattle.codec_exports.specs.declared.answer.HeaderAnswer.{HeaderAnswer}
+use Rattle.codec_exports.specs.Answers.{headerAnswerOf}
+use Rattle.codec_exports.proofs.AnswerLaws.{matched}
+
+abbrev tells : HeaderRead → HeaderAnswer
+tells a = headerAnswerOf (headerTold a)
+
+-- src/answer.rt:249:27
+enum-known-a : tie.Need-enum-known-a
+enum-known-a c = search needs
+
+-- src/answer.rt:251:21
+header-out-requires : tie.Need-header-out-requires
+header-out-requires c κs = search needs
+
+-- src/answer.rt:253:29
+enum-known-a-2 : tie.Need-enum-known-a-2
+enum-known-a-2 c = search needs
+
+-- src/answer.rt:254:22
+ci-refusal-requires : tie.Need-ci-refusal-requires
+ci-refusal-requires c κs = search needs
+
+-- src/answer.rt:245:1
+returns : tie.Need-returns
+returns c = matched tells (c .before .before .a .given .1) (rw (c .header-out .ensures))
+
+-- src/answer.rt:245:1
+returns-2 : tie.Need-returns-2
+returns-2 c = matched tells (c .before .before .a2 .given .1) (rw (c .ci-refusal .ensures))
+
+pub header-read-spec : {M : Type 1} → statement M
+header-read-spec =
+    tie.close
+    (tie.spec
+    enum-known-a
+    header-out-requires
+    enum-known-a-2
+    ci-refusal-requires
+    returns
+    returns-2)

@@ -1,0 +1,46 @@
+use borrow.Author.Needs.{needs}
+use Rattle.codec_exports.proofs.answer.message_read.Statement.{statement}
+use Rattle.codec_exports.proofs.answer.message_read.Tie as tie
+use Rattle.midici_core.specs.declared.pe_msg.MessageRead.{MessageRead}
+use Rattle.midici_core.specs.Message.{messageTold}
+use Rattle.codec_exports.specs.declared.answer.MessageAnswer.{MessageAnswer}
+use Rattle.codec_exports.specs.Answers.{messageAnswerOf}
+use Rattle.codec_exports.proofs.AnswerLaws.{matched}
+
+abbrev tells : MessageRead → MessageAnswer
+tells a = messageAnswerOf (messageTold a)
+
+-- src/answer.rt:284:28
+enum-known-a : tie.Need-enum-known-a
+enum-known-a c = search needs
+
+-- src/answer.rt:286:21
+header-out-requires : tie.Need-header-out-requires
+header-out-requires c κs = search needs
+
+-- src/answer.rt:290:30
+enum-known-a-2 : tie.Need-enum-known-a-2
+enum-known-a-2 c = search needs
+
+-- src/answer.rt:291:22
+ci-refusal-requires : tie.Need-ci-refusal-requires
+ci-refusal-requires c κs = search needs
+
+-- src/answer.rt:280:1
+returns : tie.Need-returns
+returns c = matched tells (c .before .before .a .given .1) (rw (c .header-out .ensures))
+
+-- src/answer.rt:280:1
+returns-2 : tie.Need-returns-2
+returns-2 c = matched tells (c .before .before .a2 .given .1) (rw (c .ci-refusal .ensures))
+
+pub message-read-spec : {M : Type 1} → statement M
+message-read-spec =
+    tie.close
+    (tie.spec
+    enum-known-a
+    header-out-requires
+    enum-known-a-2
+    ci-refusal-requires
+    returns
+    returns-2)

@@ -1,0 +1,297 @@
+// What the exports answer, as structs of numbers. With a refusal every other field is 0; else the refusal's number and value
+// are 0.
+use midici_core::error::CiError;
+use midici_core::header::CiHeader;
+use midici_core::header::Encoded as CiEncoded;
+use midici_core::header::HeaderRead;
+use midici_core::muid::Generated;
+use midici_core::muid::Muid;
+use midici_core::muid::MuidRead;
+use midici_core::pe_caps::CapsRead;
+use midici_core::pe_msg::MessageRead;
+use midici_core::spec::KindFound;
+use pe_wire::error::PeError;
+use pe_wire::wire::Encoded as PeEncoded;
+use pe_wire::wire::U14;
+ghost use mathlib.Core.Path.{_≡_};
+ghost use Rattle.midici_core.specs.Caps.{capsTold};
+ghost use Rattle.midici_core.specs.Errors.{ciNumber, ciValue};
+ghost use Rattle.midici_core.specs.Header.{headerOf, headerTold, encodedTold as ciEncodedTold};
+ghost use Rattle.midici_core.specs.Kinds.{kindTold};
+ghost use Rattle.midici_core.specs.Message.{messageTold};
+ghost use Rattle.midici_core.specs.Muid.{muidTold, generatedTold};
+ghost use Rattle.pe_wire.specs.Errors.{peNumber, peValue};
+ghost use Rattle.pe_wire.specs.Wire.{u14Told, encodedTold as peEncodedTold};
+ghost use Rattle.codec_exports.specs.Answers.{refusal, answerOf, headerIn, headerOut, headerAnswerOf, capsAnswerOf, messageAnswerOf, kindAnswerOf, generatedAnswerOf};
+
+#[repr(C)]
+pub struct Refusal {
+    pub number: u8,
+    pub value: u8,
+}
+
+// A number, also of bytes written.
+#[repr(C)]
+pub struct Answer {
+    pub refusal: Refusal,
+    pub number: u64,
+}
+
+#[repr(C)]
+pub struct HeaderFields {
+    pub device_id: u8,
+    pub sub_id2: u8,
+    pub version: u8,
+    pub source: u32,
+    pub dest: u32,
+}
+
+#[repr(C)]
+pub struct HeaderAnswer {
+    pub refusal: Refusal,
+    pub header: HeaderFields,
+}
+
+#[repr(C)]
+pub struct CapsFields {
+    pub header: HeaderFields,
+    pub simultaneous_requests: u8,
+    pub pe_major: u8,
+    pub pe_minor: u8,
+}
+
+#[repr(C)]
+pub struct CapsAnswer {
+    pub refusal: Refusal,
+    pub caps: CapsFields,
+}
+
+#[repr(C)]
+pub struct MessageAnswer {
+    pub refusal: Refusal,
+    pub header: HeaderFields,
+    pub payload_at: u64,
+    pub payload_len: u64,
+}
+
+// A kind's row; all 0 where it is none of the nine.
+#[repr(C)]
+pub struct KindAnswer {
+    pub known: bool,
+    pub sub_id2: u8,
+    pub chunked: bool,
+    pub reply: u8,
+}
+
+#[repr(C)]
+pub struct GeneratedAnswer {
+    pub found: bool,
+    pub number: u32,
+}
+
+#[repr(C)]
+pub struct AllocatedAnswer {
+    pub request_id: u8,
+    pub next: u8,
+}
+
+const NO_REFUSAL: Refusal = Refusal {
+    number: 0,
+    value: 0,
+};
+
+const NO_HEADER: HeaderFields = HeaderFields {
+    device_id: 0,
+    sub_id2: 0,
+    version: 0,
+    source: 0,
+    dest: 0,
+};
+
+const NO_CAPS: CapsFields = CapsFields {
+    header: NO_HEADER,
+    simultaneous_requests: 0,
+    pe_major: 0,
+    pe_minor: 0,
+};
+
+fn pe_refusal(e: PeError) -> Refusal
+    ensures { λ r. ⌜ r ≡ refusal (peNumber e) (peValue e) ⌝ }
+{
+    Refusal {
+        number: e.number(),
+        value: e.value(),
+    }
+}
+
+fn ci_refusal(e: CiError) -> Refusal
+    ensures { λ r. ⌜ r ≡ refusal (ciNumber e) (ciValue e) ⌝ }
+{
+    Refusal {
+        number: e.number(),
+        value: e.value(),
+    }
+}
+
+fn granted(number: u64) -> Answer
+    ensures { λ r. ⌜ r ≡ record { refusal = refusal 0 0; number = number } ⌝ }
+{
+    Answer {
+        refusal: NO_REFUSAL,
+        number,
+    }
+}
+
+fn refused(refusal: Refusal) -> Answer
+    ensures { λ r. ⌜ r ≡ record { refusal = refusal; number = 0 } ⌝ }
+{
+    Answer { refusal, number: 0 }
+}
+
+pub(crate) fn u14_read(a: U14) -> Answer
+    ensures { λ r. ⌜ r ≡ answerOf (u14Told a) ⌝ }
+{
+    match a {
+        U14::Value(v) => granted(v as u64),
+        U14::Refused(e) => refused(pe_refusal(e)),
+    }
+}
+
+pub(crate) fn pe_encoded(a: PeEncoded) -> Answer
+    ensures { λ r. ⌜ r ≡ answerOf (peEncodedTold a) ⌝ }
+{
+    match a {
+        PeEncoded::Wrote(n) => granted(n as u64),
+        PeEncoded::Refused(e) => refused(pe_refusal(e)),
+    }
+}
+
+pub(crate) fn ci_encoded(a: CiEncoded) -> Answer
+    ensures { λ r. ⌜ r ≡ answerOf (ciEncodedTold a) ⌝ }
+{
+    match a {
+        CiEncoded::Wrote(n) => granted(n as u64),
+        CiEncoded::Refused(e) => refused(ci_refusal(e)),
+    }
+}
+
+pub(crate) fn muid_read(a: MuidRead) -> Answer
+    ensures { λ r. ⌜ r ≡ answerOf (muidTold a) ⌝ }
+{
+    match a {
+        MuidRead::Value(m) => granted(m.0 as u64),
+        MuidRead::Refused(e) => refused(ci_refusal(e)),
+    }
+}
+
+pub(crate) fn generated(a: Generated) -> GeneratedAnswer
+    ensures { λ r. ⌜ r ≡ generatedAnswerOf (generatedTold a) ⌝ }
+{
+    match a {
+        Generated::Value(m) => GeneratedAnswer {
+            found: true,
+            number: m.0,
+        },
+        Generated::Nothing => GeneratedAnswer {
+            found: false,
+            number: 0,
+        },
+    }
+}
+
+pub(crate) fn kind_found(a: KindFound) -> KindAnswer
+    ensures { λ r. ⌜ r ≡ kindAnswerOf (kindTold a) ⌝ }
+{
+    match a {
+        KindFound::Known(k) => KindAnswer {
+            known: true,
+            sub_id2: k.sub_id2,
+            chunked: k.chunked,
+            reply: k.reply,
+        },
+        KindFound::Unknown => KindAnswer {
+            known: false,
+            sub_id2: 0,
+            chunked: false,
+            reply: 0,
+        },
+    }
+}
+
+pub(crate) fn header_in(h: HeaderFields) -> CiHeader
+    ensures { λ r. ⌜ headerOf r ≡ headerIn h ⌝ }
+{
+    CiHeader {
+        device_id: h.device_id,
+        sub_id2: h.sub_id2,
+        version: h.version,
+        source: Muid(h.source),
+        dest: Muid(h.dest),
+    }
+}
+
+fn header_out(h: CiHeader) -> HeaderFields
+    ensures { λ r. ⌜ r ≡ headerOut (headerOf h) ⌝ }
+{
+    HeaderFields {
+        device_id: h.device_id,
+        sub_id2: h.sub_id2,
+        version: h.version,
+        source: h.source.0,
+        dest: h.dest.0,
+    }
+}
+
+pub(crate) fn header_read(a: HeaderRead) -> HeaderAnswer
+    ensures { λ r. ⌜ r ≡ headerAnswerOf (headerTold a) ⌝ }
+{
+    match a {
+        HeaderRead::Value(h) => HeaderAnswer {
+            refusal: NO_REFUSAL,
+            header: header_out(h),
+        },
+        HeaderRead::Refused(e) => HeaderAnswer {
+            refusal: ci_refusal(e),
+            header: NO_HEADER,
+        },
+    }
+}
+
+pub(crate) fn caps_read(a: CapsRead) -> CapsAnswer
+    ensures { λ r. ⌜ r ≡ capsAnswerOf (capsTold a) ⌝ }
+{
+    match a {
+        CapsRead::Value(c) => CapsAnswer {
+            refusal: NO_REFUSAL,
+            caps: CapsFields {
+                header: header_out(c.header),
+                simultaneous_requests: c.simultaneous_requests,
+                pe_major: c.pe_major,
+                pe_minor: c.pe_minor,
+            },
+        },
+        CapsRead::Refused(e) => CapsAnswer {
+            refusal: ci_refusal(e),
+            caps: NO_CAPS,
+        },
+    }
+}
+
+pub(crate) fn message_read(a: MessageRead) -> MessageAnswer
+    ensures { λ r. ⌜ r ≡ messageAnswerOf (messageTold a) ⌝ }
+{
+    match a {
+        MessageRead::Value(m) => MessageAnswer {
+            refusal: NO_REFUSAL,
+            header: header_out(m.header),
+            payload_at: m.payload_at as u64,
+            payload_len: m.payload_len as u64,
+        },
+        MessageRead::Refused(e) => MessageAnswer {
+            refusal: ci_refusal(e),
+            header: NO_HEADER,
+            payload_at: 0,
+            payload_len: 0,
+        },
+    }
+}

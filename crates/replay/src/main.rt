@@ -1,0 +1,328 @@
+// Plays a fixed list of the original's answers: records of a function's byte, the length of its input in two bytes, low one
+// first, and the input. For each it prints the port's answer on a line: the values, or r with the refusal's number and value;
+// then each byte of the lent output, behind a colon. oracle/src/op.rs says how an input reads; `make vectors` writes the list.
+use codec_exports::answer::Answer;
+use codec_exports::answer::CapsFields;
+use codec_exports::answer::HeaderFields;
+use codec_exports::answer::Refusal;
+use libc::STDOUT_FILENO;
+ghost use Prim.Native.Nat.{_<_, _≤_};
+ghost use lib.ListN.{length};
+
+const READ_U14_LE7: u8 = 1;
+
+const WRITE_U14_LE7: u8 = 2;
+
+const MUID_FROM_U32: u8 = 3;
+
+const MUID_ORDINARY: u8 = 4;
+
+const MUID_IS_BROADCAST: u8 = 5;
+
+const MUID_IS_RESERVED: u8 = 6;
+
+const MUID_ENCODE_7BIT_LE: u8 = 7;
+
+const MUID_DECODE_7BIT_LE: u8 = 8;
+
+const MUID_GENERATE: u8 = 9;
+
+const HEADER_DECODE: u8 = 10;
+
+const HEADER_ENCODE: u8 = 11;
+
+const IS_PE_CHUNKED_SUB_ID: u8 = 12;
+
+const KIND_OF: u8 = 13;
+
+const CAPS_DECODE: u8 = 14;
+
+const CAPS_ENCODE: u8 = 15;
+
+const MESSAGE_DECODE: u8 = 16;
+
+const MESSAGE_ENCODE: u8 = 17;
+
+const MCODED7_DECODE: u8 = 18;
+
+const MCODED7_ENCODE: u8 = 19;
+
+const FIRST_REQUEST_ID: u8 = 20;
+
+const ALLOC_OUT_REQUEST_ID: u8 = 21;
+
+const NEGOTIATED_REQUESTS: u8 = 22;
+
+// Bytes past the end are 0.
+fn u8_at(s: &[u8], at: usize) -> u8 {
+    if at < s.len() { s[at] } else { 0 }
+}
+
+fn u16_at(s: &[u8], at: usize) -> u16
+    requires { ⌜ at ≤ 64 ⌝ }
+{
+    u8_at(s, at) as u16 + 256 * (u8_at(s, at + 1) as u16)
+}
+
+fn u32_at(s: &[u8], at: usize) -> u32
+    requires { ⌜ at ≤ 32 ⌝ }
+{
+    u16_at(s, at) as u32 + 65_536 * (u16_at(s, at + 2) as u32)
+}
+
+fn from(s: &[u8], at: usize) -> &[u8] {
+    if at <= s.len() { &s[at..] } else { &s[..0] }
+}
+
+fn print_value(n: u64) {
+    io::print_decimal(STDOUT_FILENO, n);
+    io::write_all(STDOUT_FILENO, b" ");
+}
+
+fn print_byte(b: u8) {
+    print_value(b as u64);
+}
+
+fn print_flag(yes: bool) {
+    print_value(if yes { 1 } else { 0 });
+}
+
+fn print_refusal(r: Refusal) {
+    io::write_all(STDOUT_FILENO, b"r ");
+    print_byte(r.number);
+    print_byte(r.value);
+}
+
+fn print_behind_space(b: u8) {
+    io::write_all(STDOUT_FILENO, b" ");
+    io::print_decimal(STDOUT_FILENO, b as u64);
+}
+
+// The output, and the line's end.
+fn print_out(out: &[u8]) {
+    io::write_all(STDOUT_FILENO, b":");
+    let mut i = 0;
+    while i < out.len() {
+        print_behind_space(out[i]);
+        i += 1;
+    }
+    io::write_all(STDOUT_FILENO, b"\n");
+}
+
+fn print_answer(a: Answer) {
+    if a.refusal.number == 0 {
+        print_value(a.number);
+    } else {
+        print_refusal(a.refusal);
+    }
+}
+
+fn print_header(h: HeaderFields) {
+    print_byte(h.device_id);
+    print_byte(h.sub_id2);
+    print_byte(h.version);
+    print_value(h.source as u64);
+    print_value(h.dest as u64);
+}
+
+// A header's fields, behind the room.
+fn header_in(s: &[u8]) -> HeaderFields {
+    HeaderFields {
+        device_id: u8_at(s, 2),
+        sub_id2: u8_at(s, 3),
+        version: u8_at(s, 4),
+        source: u32_at(s, 5),
+        dest: u32_at(s, 9),
+    }
+}
+
+fn caps_in(s: &[u8]) -> CapsFields {
+    CapsFields {
+        header: header_in(s),
+        simultaneous_requests: u8_at(s, 13),
+        pe_major: u8_at(s, 14),
+        pe_minor: u8_at(s, 15),
+    }
+}
+
+// The functions that write into a lent output.
+fn write(op: u8, s: &[u8], out: &mut [u8]) -> Answer {
+    match op {
+        WRITE_U14_LE7 => codec_exports::pe::codec_write_u14_le7(u16_at(s, 2), out),
+        HEADER_ENCODE => codec_exports::ci::codec_header_encode(header_in(s), out),
+        CAPS_ENCODE => codec_exports::ci::codec_caps_encode(caps_in(s), out),
+        MESSAGE_ENCODE => codec_exports::ci::codec_message_encode(header_in(s), from(s, 13), out),
+        MCODED7_DECODE => codec_exports::pe::codec_mcoded7_decode(from(s, 2), out),
+        _ => codec_exports::pe::codec_mcoded7_encode(from(s, 2), out),
+    }
+}
+
+fn write_into(op: u8, s: &[u8], space: &mut [u8], room: usize) {
+    if room <= space.len() {
+        print_answer(write(op, s, &mut space[0..room]));
+        print_out(&space[0..room]);
+    }
+}
+
+fn play_writer(op: u8, s: &[u8]) {
+    let mut space = [0xEEu8; 256];
+    write_into(op, s, &mut space, u16_at(s, 0) as usize);
+}
+
+fn muid_decode(s: &[u8]) {
+    let bytes = [u8_at(s, 0), u8_at(s, 1), u8_at(s, 2), u8_at(s, 3)];
+    print_answer(codec_exports::ci::codec_muid_decode_7bit_le(&bytes));
+}
+
+fn muid_encode(s: &[u8]) {
+    let mut bytes = [0u8; 4];
+    codec_exports::ci::codec_muid_encode_7bit_le(u32_at(s, 0), &mut bytes);
+    print_byte(bytes[0]);
+    print_byte(bytes[1]);
+    print_byte(bytes[2]);
+    print_byte(bytes[3]);
+}
+
+fn generate(words: &[u32], n: usize) {
+    if n <= words.len() {
+        let generated = codec_exports::ci::codec_muid_generate(&words[0..n]);
+        print_flag(generated.found);
+        print_value(generated.number as u64);
+    }
+}
+
+// Up to five words.
+fn muid_generate(s: &[u8]) {
+    let words = [
+        u32_at(s, 0),
+        u32_at(s, 4),
+        u32_at(s, 8),
+        u32_at(s, 12),
+        u32_at(s, 16),
+    ];
+    generate(&words, s.len() / 4);
+}
+
+fn header_decode(s: &[u8]) {
+    let answer = codec_exports::ci::codec_header_decode(s);
+    if answer.refusal.number == 0 {
+        print_header(answer.header);
+    } else {
+        print_refusal(answer.refusal);
+    }
+}
+
+fn kind_of(s: &[u8]) {
+    let answer = codec_exports::ci::codec_kind_of(u8_at(s, 0));
+    print_flag(answer.known);
+    print_byte(answer.sub_id2);
+    print_flag(answer.chunked);
+    print_byte(answer.reply);
+}
+
+fn caps_decode(s: &[u8]) {
+    let answer = codec_exports::ci::codec_caps_decode(s);
+    let caps = answer.caps;
+    if answer.refusal.number == 0 {
+        print_header(caps.header);
+        print_byte(caps.simultaneous_requests);
+        print_byte(caps.pe_major);
+        print_byte(caps.pe_minor);
+    } else {
+        print_refusal(answer.refusal);
+    }
+}
+
+// The payload is shown as the output.
+fn play_message(s: &[u8]) {
+    let answer = codec_exports::ci::codec_message_decode(s);
+    if answer.refusal.number != 0 {
+        print_refusal(answer.refusal);
+        print_out(b"");
+        return;
+    }
+    print_header(answer.header);
+    let payload = from(s, answer.payload_at as usize);
+    let len = answer.payload_len as usize;
+    if len <= payload.len() {
+        print_out(&payload[0..len]);
+    }
+}
+
+fn alloc_out_request_id(s: &[u8]) {
+    let answer = codec_exports::pe::codec_alloc_out_request_id(u8_at(s, 0));
+    print_byte(answer.request_id);
+    print_byte(answer.next);
+}
+
+// The functions that write nothing, but for the message.
+fn play_reader(op: u8, s: &[u8]) {
+    match op {
+        READ_U14_LE7 => print_answer(codec_exports::pe::codec_read_u14_le7(s)),
+        MUID_FROM_U32 => print_answer(codec_exports::ci::codec_muid_from_u32(u32_at(s, 0))),
+        MUID_ORDINARY => print_answer(codec_exports::ci::codec_muid_ordinary(u32_at(s, 0))),
+        MUID_IS_BROADCAST => print_flag(codec_exports::ci::codec_muid_is_broadcast(u32_at(s, 0))),
+        MUID_IS_RESERVED => print_flag(codec_exports::ci::codec_muid_is_reserved(u32_at(s, 0))),
+        MUID_ENCODE_7BIT_LE => muid_encode(s),
+        MUID_DECODE_7BIT_LE => muid_decode(s),
+        MUID_GENERATE => muid_generate(s),
+        HEADER_DECODE => header_decode(s),
+        IS_PE_CHUNKED_SUB_ID => print_flag(codec_exports::ci::codec_is_pe_chunked_sub_id(u8_at(
+            s,
+            0,
+        ))),
+        KIND_OF => kind_of(s),
+        CAPS_DECODE => caps_decode(s),
+        FIRST_REQUEST_ID => print_byte(codec_exports::pe::codec_first_request_id()),
+        ALLOC_OUT_REQUEST_ID => alloc_out_request_id(s),
+        NEGOTIATED_REQUESTS => print_byte(codec_exports::pe::codec_negotiated_requests(
+            u8_at(s, 0),
+            u8_at(s, 1),
+        )),
+        _ => print_flag(false),
+    }
+    print_out(b"");
+}
+
+fn play(op: u8, s: &[u8]) {
+    match op {
+        WRITE_U14_LE7
+        | HEADER_ENCODE
+        | CAPS_ENCODE
+        | MESSAGE_ENCODE
+        | MCODED7_DECODE
+        | MCODED7_ENCODE => play_writer(op, s),
+        MESSAGE_DECODE => play_message(s),
+        _ => play_reader(op, s),
+    }
+}
+
+// Plays the record at `at`, and returns the place after it, or the end where it is cut off.
+fn record(s: &[u8], at: usize) -> usize
+    requires { ⌜ at < length (now s) ⌝ }
+    ensures { λ r. ⌜ at < r ⌝ }
+    ensures { λ r. ⌜ r ≤ length (now (s .entry)) ⌝ }
+{
+    let start = at + 1;
+    let n = u16_at(&s[start..], 0) as usize;
+    if s.len() - start < n + 2 {
+        return s.len();
+    }
+    let body = start + 2;
+    let end = body + n;
+    play(s[at], &s[body..end]);
+    end
+}
+
+fn replay(s: &[u8]) {
+    let mut at = 0;
+    while at < s.len() {
+        at = record(s, at);
+    }
+}
+
+fn main() {
+    let mut input = [0u8; 65536];
+    let n = io::read_full(0, &mut input);
+    replay(&input[..n]);
+}
