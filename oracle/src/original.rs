@@ -212,9 +212,11 @@ fn alloc_out_request_id(counter: u8) -> Outcome {
     granted([id, controller.counter()])
 }
 
+/// What `on_caps_inquiry` settles, and `on_caps_reply` too.
 fn negotiated_requests(ours: u8, theirs: u8) -> Outcome {
     let controller = PeController::new(ours);
     let negotiated = controller.negotiated_on_inquiry(Caps { simultaneous_requests: theirs });
-    assert_eq!(negotiated, controller.negotiated_on_reply(Caps { simultaneous_requests: theirs }));
+    let on_reply = controller.negotiated_on_reply(Caps { simultaneous_requests: theirs });
+    assert_eq!(negotiated, on_reply, "the original's two places, at {ours} and {theirs}");
     granted([negotiated])
 }
