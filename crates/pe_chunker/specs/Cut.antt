@@ -1,0 +1,90 @@
+-- A header and a body cut into chunks (document 01, module 6, and the questions under **Cut**).
+-- Assumes nothing.
+use Prim.Native.Nat.{ℕ, zero, suc, _+_, _-_}
+use mathlib.Core.Bool.{cond, _&&_}
+use mathlib.Core.List.{List, [], _∷_}
+use lib.Dec.{leb, ltb, eqb}
+use lib.ListN.{length, getD, take, drop}
+use Rattle.seven_bit.specs.Reply.{Reply, granted, _else_then_}
+use Rattle.seven_bit.specs.SevenBit.{isSevenBit}
+use Rattle.pe_wire.specs.Errors.{peRefused}
+use Rattle.pe_frame.specs.Chunk.{Chunk}
+use Rattle.pe_frame.specs.Write.{chunkBytes, chunkLen}
+use Rattle.pe_chunker.specs.declared.Capacity.{Capacity}
+use Rattle.pe_chunker.specs.declared.ChunkCount.{ChunkCount}
+
+-- "Limit clamped to 128..4,096"
+unfoldable pub clamped : ℕ → ℕ
+clamped limit = cond (ltb limit 128) 128 (cond (ltb 4096 limit) 4096 limit)
+
+-- "budget is limit − 15"
+unfoldable pub budget : ℕ → ℕ
+budget limit = clamped limit - 15
+
+-- "later frames carry budget − 9"
+unfoldable pub laterCapacity : ℕ → ℕ
+laterCapacity limit = budget limit - 9
+
+-- "the first budget − 9 − header length"; "Header + 9 within budget? 4."
+unfoldable pub firstCapacity : ℕ → ℕ → ℕ
+firstCapacity limit header-len = budget limit - 9 - header-len
+
+unfoldable pub askFirst : ℕ → ℕ → Reply ℕ
+askFirst limit header-len =
+    leb (header-len + 9) (budget limit) else 4 then
+    granted (firstCapacity limit header-len)
+
+-- Pieces of k elements until nothing is left; fuel is at least the list's length.
+unfoldable pub cutUp : {A : Type 0} → ℕ → ℕ → List A → List (List A)
+cutUp k zero xs = []
+cutUp k (suc fuel) [] = []
+cutUp k (suc fuel) (x ∷ xs) = take k (x ∷ xs) ∷ cutUp k fuel (drop k (x ∷ xs))
+
+-- The body's pieces: the first chunk's, which may be empty, and those of the later chunks.
+unfoldable pub bodyPieces : ℕ → ℕ → List ℕ → List (List ℕ)
+bodyPieces limit header-len body =
+    take (firstCapacity limit header-len) body
+    ∷ cutUp (laterCapacity limit) (length body) (drop (firstCapacity limit header-len) body)
+
+-- The chunk of number k, from 1: the header in the first one only.
+unfoldable pub chunkAt : ℕ → List ℕ → List ℕ → ℕ → ℕ → Chunk
+chunkAt request-id header body limit k =
+    record {
+      request-id = request-id;
+      header = cond (eqb k 1) header [];
+      num-chunks = length (bodyPieces limit (length header) body);
+      chunk-num = k;
+      property = getD (bodyPieces limit (length header) body) (k - 1) [];
+    }
+
+-- "Request id? 1. Header bytes? 1. Header up to 16,383? 4. Header + 9 within budget? 4. At most 16,383 frames? 5."
+unfoldable pub askCut : {A : Type 0} → ℕ → List ℕ → List ℕ → ℕ → Reply A → Reply A
+askCut request-id header body limit next =
+    leb request-id 0x7F else 1 then
+    isSevenBit header else 1 then
+    leb (length header) 16383 else 4 then
+    leb (length header + 9) (budget limit) else 4 then
+    leb (length (bodyPieces limit (length header) body)) 16383 else 5 then
+    next
+
+-- How many chunks there are.
+unfoldable pub cutCount : ℕ → List ℕ → List ℕ → ℕ → Reply ℕ
+cutCount request-id header body limit =
+    askCut request-id header body limit
+    (granted (length (bodyPieces limit (length header) body)))
+
+-- Chunk k: "Is k from 1 to the count? 29. Buffer long enough? 3."
+unfoldable pub cutChunk : ℕ → List ℕ → List ℕ → ℕ → ℕ → ℕ → Reply (List ℕ)
+cutChunk request-id header body limit k room =
+    askCut request-id header body limit
+    ((leb 1 k && leb k (length (bodyPieces limit (length header) body))) else 29 then
+    leb (chunkLen (chunkAt request-id header body limit k)) room else 3 then
+    granted (chunkBytes (chunkAt request-id header body limit k)))
+
+abbrev pub capacityTold : Capacity → Reply ℕ
+capacityTold (Capacity.Bytes n) = granted n
+capacityTold (Capacity.Refused e) = peRefused e
+
+abbrev pub countTold : ChunkCount → Reply ℕ
+countTold (ChunkCount.Chunks n) = granted n
+countTold (ChunkCount.Refused e) = peRefused e

@@ -1,0 +1,58 @@
+-- A chunk written, alone and behind a CI header (document 01, **Write a frame**, and 'Added').
+-- Assumes nothing.
+use Prim.Native.Nat.{ℕ, _+_}
+use mathlib.Core.Bool.{_||_}
+use mathlib.Core.List.{List, [], _∷_, _++_}
+use lib.Dec.{leb, eqb}
+use lib.ListN.{length}
+use Rattle.seven_bit.specs.Reply.{Reply, granted, _else_then_, _else_with_then_}
+use Rattle.seven_bit.specs.SevenBit.{isSevenBit, bytesOf}
+use Rattle.midici_core.specs.Header.{Header, headerBytes, within28}
+use Rattle.midici_core.specs.Kinds.{carriesChunk}
+use Rattle.pe_frame.specs.Chunk.{Chunk}
+
+-- The chunk's bytes, and how many there are.
+unfoldable pub chunkBytes : Chunk → List ℕ
+chunkBytes c =
+    c .request-id
+    ∷ (bytesOf 2 (length (c .header))
+    ++ (c .header
+    ++ (bytesOf 2 (c .num-chunks)
+    ++ (bytesOf 2 (c .chunk-num)
+    ++ (bytesOf 2 (length (c .property))
+    ++ c .property)))))
+
+unfoldable pub chunkLen : Chunk → ℕ
+chunkLen c = 9 + length (c .header) + length (c .property)
+
+-- "Id? 1. Header and property up to 16,383? 1. Count and number? 1. Header bytes? 1. Number 1 or no header? 8."
+unfoldable pub askChunk : {A : Type 0} → Chunk → Reply A → Reply A
+askChunk c next =
+    leb (c .request-id) 0x7F else 1 then
+    leb (length (c .header)) 16383 else 1 then
+    leb (length (c .property)) 16383 else 1 then
+    leb (c .num-chunks) 16383 else 1 then
+    leb (c .chunk-num) 16383 else 1 then
+    isSevenBit (c .header) else 1 then
+    (eqb (c .chunk-num) 1 || eqb (length (c .header)) 0) else 8 then
+    next
+
+-- and then "Buffer? 3."
+unfoldable pub writeChunk : Chunk → ℕ → Reply (List ℕ)
+writeChunk c room =
+    askChunk c
+    (leb (chunkLen c) room else 3 then
+    granted (chunkBytes c))
+
+-- "header (device 7F, version 2)"
+abbrev pub headerFor : ℕ → ℕ → ℕ → Header
+headerFor kind source dest = record { device = 0x7F; kind = kind; version = 2; source = source; dest = dest }
+
+-- "asking consoles (28), a kind that carries a frame (24), then the frame's questions, with the buffer (3) measured for both"
+unfoldable pub writeWhole : ℕ → ℕ → ℕ → Chunk → ℕ → Reply (List ℕ)
+writeWhole kind source dest c room =
+    within28 (headerFor kind source dest) else 28 then
+    carriesChunk kind else 24 with kind then
+    askChunk c
+    (leb (13 + chunkLen c) room else 3 then
+    granted (headerBytes (headerFor kind source dest) ++ chunkBytes c))

@@ -1,0 +1,1 @@
+// PeChunkRef: a chunk that refers to the bytes it was read from.
