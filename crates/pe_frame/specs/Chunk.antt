@@ -58,22 +58,22 @@ readFields s =
 -- The chunk that stands in the bytes.
 abbrev pub chunkOf : List ℕ → Fields → Chunk
 chunkOf s f = record {
-      request-id = f .request-id;
-      header = part 3 (f .header-len) s;
-      num-chunks = f .num-chunks;
-      chunk-num = f .chunk-num;
-      property = part (f .property-at) (f .property-len) s;
-    }
+  request-id = f .request-id;
+  header = part 3 (f .header-len) s;
+  num-chunks = f .num-chunks;
+  chunk-num = f .chunk-num;
+  property = part (f .property-at) (f .property-len) s;
+}
 
 abbrev pub fieldsOf : ChunkFields → Fields
 fieldsOf f = record {
-      request-id = f .«request_id»;
-      header-len = f .«header_len»;
-      num-chunks = f .«num_chunks»;
-      chunk-num = f .«chunk_num»;
-      property-at = f .«property_at»;
-      property-len = f .«property_len»;
-    }
+  request-id = f .«request_id»;
+  header-len = f .«header_len»;
+  num-chunks = f .«num_chunks»;
+  chunk-num = f .«chunk_num»;
+  property-at = f .«property_at»;
+  property-len = f .«property_len»;
+}
 
 abbrev pub chunkTold : ChunkRead → Reply Fields
 chunkTold (ChunkRead.Value f) = granted (fieldsOf f)

@@ -1,15 +1,24 @@
 // A chunk: request id, header length (14 bits), header, chunk count (14), chunk number (14), property length (14), property.
 use pe_wire::error::PeError;
 use pe_wire::wire::Encoded;
+use pe_wire::wire::U14;
+use pe_wire::wire::U14_MAX;
+use pe_wire::wire::read_u14_le7;
+use pe_wire::wire::write_u14_le7;
+ghost use mathlib.Core.Bool.{true};
 ghost use mathlib.Core.Path.{_≡_};
-ghost use lib.ListN.{length};
-ghost use Rattle.seven_bit.specs.Reply.{outcome, writing};
-ghost use Rattle.pe_wire.specs.Wire.{encodedTold};
-ghost use Rattle.pe_frame.specs.Chunk.{readFields, chunkTold};
-ghost use Rattle.pe_frame.specs.Write.{writeChunk};
+ghost use Prim.Native.Nat.{_+_, _≤_};
+ghost use lib.ListN.{length, getD, drop};
+ghost use Rattle.seven_bit.specs.Parts.{part, put};
+ghost use Rattle.seven_bit.specs.Reply.{granted, outcome, writing};
+ghost use Rattle.seven_bit.specs.SevenBit.{isSevenBit, bytesOf};
+ghost use Rattle.pe_wire.specs.Wire.{readU14, encodedTold};
+ghost use Rattle.pe_frame.specs.Chunk.{Chunk, readFields, chunkTold};
+ghost use Rattle.pe_frame.specs.Write.{askChunk, chunkLen, chunkBytes, writeChunk};
 
 // The bytes of a chunk besides its header and property.
 pub const PE_FRAMING_LEN: usize = 9;
+
 pub const REQUEST_ID_MAX: u8 = 0x7F;
 
 // What reading a chunk finds: its header starts at byte 3, its property at property_at.
@@ -27,10 +36,137 @@ pub enum ChunkRead {
     Refused(PeError),
 }
 
+// Count, number and property, behind a header of nh bytes that was found good.
+fn decode_counts(data: &[u8], nh: usize) -> ChunkRead
+    requires { ⌜ (9 + nh ≤ length (now «data»)) × (getD (now «data») 0 0 ≤ 127) × (readU14 (drop 1 (now «data»)) ≡ granted nh) × (isSevenBit (part 3 nh (now «data»)) ≡ true) ⌝ }
+    ensures { λ r. ⌜ chunkTold r ≡ readFields (now («data» .entry)) ⌝ }
+{
+    let count_at = 3 + nh;
+    let num_chunks = match read_u14_le7(&data[count_at..]) {
+        U14::Value(v) => v,
+        U14::Refused(e) => return ChunkRead::Refused(e),
+    };
+    let number_at = 5 + nh;
+    let chunk_num = match read_u14_le7(&data[number_at..]) {
+        U14::Value(v) => v,
+        U14::Refused(e) => return ChunkRead::Refused(e),
+    };
+    let len_at = 7 + nh;
+    let nd = match read_u14_le7(&data[len_at..]) {
+        U14::Value(v) => v as usize,
+        U14::Refused(e) => return ChunkRead::Refused(e),
+    };
+    let property_at = PE_FRAMING_LEN + nh;
+    if data.len() < property_at + nd {
+        return ChunkRead::Refused(PeError::Truncated);
+    }
+    if property_at + nd < data.len() {
+        return ChunkRead::Refused(PeError::BadField);
+    }
+    // The header stands in chunk 1 only.
+    if chunk_num != 1 {
+        if nh != 0 {
+            return ChunkRead::Refused(PeError::InconsistentChunking);
+        }
+    }
+    ChunkRead::Value(ChunkFields {
+        request_id: data[0],
+        header_len: nh,
+        num_chunks,
+        chunk_num,
+        property_at,
+        property_len: nd,
+    })
+}
+
 pub fn decode_fields(data: &[u8]) -> ChunkRead
     ensures { λ r. ⌜ chunkTold r ≡ readFields (now («data» .entry)) ⌝ }
 {
-    ChunkRead::Refused(PeError::Truncated)
+    if data.len() < PE_FRAMING_LEN {
+        return ChunkRead::Refused(PeError::Truncated);
+    }
+    if data[0] > REQUEST_ID_MAX {
+        return ChunkRead::Refused(PeError::BadField);
+    }
+    let nh = match read_u14_le7(&data[1..]) {
+        U14::Value(v) => v as usize,
+        U14::Refused(e) => return ChunkRead::Refused(e),
+    };
+    if data.len() < PE_FRAMING_LEN + nh {
+        return ChunkRead::Refused(PeError::Truncated);
+    }
+    let header_end = 3 + nh;
+    if !seven_bit::all_seven_bit(&data[3..header_end]) {
+        return ChunkRead::Refused(PeError::BadField);
+    }
+    decode_counts(data, nh)
+}
+
+// The questions before a chunk is written, except for the room: its length, or the refusal.
+pub(crate) fn questions(
+    request_id: u8,
+    header: &[u8],
+    num_chunks: u16,
+    chunk_num: u16,
+    property: &[u8],
+) -> Encoded
+    ensures { λ r. ⌜ encodedTold r ≡ askChunk (record { request-id = «request_id»; header = now (header .entry); num-chunks = «num_chunks»; chunk-num = «chunk_num»; property = now (property .entry) }) (granted (9 + length (now (header .entry)) + length (now (property .entry)))) ⌝ }
+{
+    if request_id > REQUEST_ID_MAX {
+        return Encoded::Refused(PeError::BadField);
+    }
+    if header.len() > U14_MAX as usize {
+        return Encoded::Refused(PeError::BadField);
+    }
+    if property.len() > U14_MAX as usize {
+        return Encoded::Refused(PeError::BadField);
+    }
+    if num_chunks > U14_MAX {
+        return Encoded::Refused(PeError::BadField);
+    }
+    if chunk_num > U14_MAX {
+        return Encoded::Refused(PeError::BadField);
+    }
+    if !seven_bit::all_seven_bit(header) {
+        return Encoded::Refused(PeError::BadField);
+    }
+    if chunk_num != 1 {
+        if header.len() != 0 {
+            return Encoded::Refused(PeError::InconsistentChunking);
+        }
+    }
+    Encoded::Wrote(PE_FRAMING_LEN + header.len() + property.len())
+}
+
+// A field of 14 bits, at a place that has room for it.
+fn put_u14(out: &mut [u8], at: usize, v: u16)
+    requires { ⌜ (at + 2 ≤ length (now out)) × (v ≤ 16383) ⌝ }
+    ensures { λ _. ⌜ now (out .exit) ≡ put (now (out .entry)) at (bytesOf 2 v) ⌝ }
+{
+    write_u14_le7(v, &mut out[at..]);
+}
+
+// The chunk's bytes from place at of out on, which has room for them.
+pub(crate) fn fill(
+    request_id: u8,
+    header: &[u8],
+    num_chunks: u16,
+    chunk_num: u16,
+    property: &[u8],
+    out: &mut [u8],
+    at: usize,
+)
+    requires { ⌜ (length (now header) ≤ 16383) × (length (now property) ≤ 16383) × («num_chunks» ≤ 16383) × («chunk_num» ≤ 16383) × (at + (9 + length (now header) + length (now property)) ≤ length (now out)) ⌝ }
+    ensures { λ _. ⌜ now (out .exit) ≡ put (now (out .entry)) at (chunkBytes (record { request-id = «request_id»; header = now (header .entry); num-chunks = «num_chunks»; chunk-num = «chunk_num»; property = now (property .entry) })) ⌝ }
+{
+    out[at] = request_id;
+    put_u14(out, at + 1, header.len() as u16);
+    seven_bit::copy_in(out, at + 3, header);
+    let behind = at + 3 + header.len();
+    put_u14(out, behind, num_chunks);
+    put_u14(out, behind + 2, chunk_num);
+    put_u14(out, behind + 4, property.len() as u16);
+    seven_bit::copy_in(out, behind + 6, property);
 }
 
 // Writes a chunk into out; the bytes past it keep their values.
@@ -44,5 +180,13 @@ pub fn encode(
 ) -> Encoded
     ensures { λ r. ⌜ outcome (encodedTold r) (now (out .exit)) ≡ writing (writeChunk (record { request-id = «request_id»; header = now (header .entry); num-chunks = «num_chunks»; chunk-num = «chunk_num»; property = now (property .entry) }) (length (now (out .entry)))) (now (out .entry)) ⌝ }
 {
-    Encoded::Refused(PeError::BufferTooSmall)
+    let answer = questions(request_id, header, num_chunks, chunk_num, property);
+    let Encoded::Wrote(need) = answer else {
+        return answer;
+    };
+    if out.len() < need {
+        return Encoded::Refused(PeError::BufferTooSmall);
+    }
+    fill(request_id, header, num_chunks, chunk_num, property, out, 0);
+    Encoded::Wrote(need)
 }

@@ -1,0 +1,97 @@
+-- The questions of a cut: their answers by the code's tests, and what a grant tells.
+-- Assumes nothing.
+use Prim.Native.Nat.{ℕ, _+_, _<_, _≤_}
+use mathlib.Core.Bool.{Bool, true, false}
+use mathlib.Core.List.{List}
+use mathlib.Core.Path.{_≡_, refl, _∙_}
+use native.Mathlib.Omega.{arith}
+use borrow.Author.Tests.{le-leb, lt-leb, leb-true}
+use lib.Dec.{leb}
+use lib.ListN.{length}
+use Rattle.seven_bit.specs.Reply.{Reply, granted, refused, _else_then_, andThen}
+use Rattle.seven_bit.specs.SevenBit.{isSevenBit}
+use Rattle.seven_bit.proofs.ReplyLaws.{asked}
+use Rattle.pe_chunker.specs.Cut.{budget, laterCapacity, bodyPieces, askCut}
+use Rattle.pe_chunker.proofs.CutLaws.{later-is, later-between}
+
+-- the refusals, each past the questions before it
+pub cut-id : {A : Type 0} (id : ℕ) (header body : List ℕ) (limit : ℕ) (next : Reply A) → 127 < id → askCut id header body limit next ≡ refused 1 0
+unfolding askCut
+cut-id id header body limit next h = rw (lt-leb _ _ h)
+
+pub cut-high : {A : Type 0} (id : ℕ) (header body : List ℕ) (limit : ℕ) (next : Reply A) → id ≤ 127 → isSevenBit header ≡ false
+    → askCut id header body limit next ≡ refused 1 0
+unfolding askCut
+cut-high id header body limit next i s = rw (le-leb _ _ i, s)
+
+pub cut-long : {A : Type 0} (id : ℕ) (header body : List ℕ) (limit : ℕ) (next : Reply A) → id ≤ 127 → isSevenBit header ≡ true → 16383 < length header
+    → askCut id header body limit next ≡ refused 4 0
+unfolding askCut
+cut-long id header body limit next i s h = rw (le-leb _ _ i, s, lt-leb _ _ h)
+
+pub cut-wide : {A : Type 0} (id : ℕ) (header body : List ℕ) (limit : ℕ) (next : Reply A) → id ≤ 127 → isSevenBit header ≡ true → length header ≤ 16383
+    → laterCapacity limit < length header → askCut id header body limit next ≡ refused 4 0
+unfolding askCut
+cut-wide id header body limit next i s h w =
+    let l : budget limit < length header + 9 = omega (arith, later-is limit) in
+    rw (le-leb _ _ i, s, le-leb _ _ h, lt-leb _ _ l)
+
+-- what is known where no question was answered no
+pub record Cut (id : ℕ) (header body : List ℕ) (limit : ℕ) : Type 0 where
+  pub low : id ≤ 127
+  pub seven : isSevenBit header ≡ true
+  pub fits : length header ≤ laterCapacity limit
+  pub few : length (bodyPieces limit (length header) body) ≤ 16383
+
+-- the last question's two answers
+pub cut-many : {A : Type 0} (id : ℕ) (header body : List ℕ) (limit : ℕ) (next : Reply A) → id ≤ 127 → isSevenBit header ≡ true
+    → length header ≤ laterCapacity limit → 16383 < length (bodyPieces limit (length header) body) → askCut id header body limit next ≡ refused 5 0
+unfolding askCut
+cut-many id header body limit next i s h m =
+    let b = later-between limit in
+    let t : length header ≤ 16383 = omega arith in
+    let l : length header + 9 ≤ budget limit = omega (arith, later-is limit) in
+    rw (le-leb _ _ i, s, le-leb _ _ t, le-leb _ _ l, lt-leb _ _ m)
+
+pub cut-asked : {A : Type 0} (id : ℕ) (header body : List ℕ) (limit : ℕ) (next : Reply A) → Cut id header body limit → askCut id header body limit next ≡ next
+unfolding askCut
+cut-asked id header body limit next c =
+    let b = later-between limit in
+    let h = c .fits in
+    let t : length header ≤ 16383 = omega arith in
+    let l : length header + 9 ≤ budget limit = omega (arith, later-is limit) in
+    rw (le-leb _ _ (c .low), c .seven, le-leb _ _ t, le-leb _ _ l, le-leb _ _ (c .few))
+
+-- what a grant tells
+pub cut-told : {A : Type 0} (id : ℕ) (header body : List ℕ) (limit : ℕ) (next : Reply A) (a : A) → askCut id header body limit next ≡ granted a
+    → Cut id header body limit × (next ≡ granted a)
+unfolding askCut
+cut-told id header body limit next a q =
+    let p1 = asked (leb id 127) 1 _ a q in
+    let p2 = asked (isSevenBit header) 1 _ a (p1 .1) in
+    let p3 = asked (leb (length header) 16383) 4 _ a (p2 .1) in
+    let p4 = asked (leb (length header + 9) (budget limit)) 4 _ a (p3 .1) in
+    let p5 = asked (leb (length (bodyPieces limit (length header) body)) 16383) 5 next a (p4 .1) in
+    let l : length header + 9 ≤ budget limit = leb-true _ _ (p4 .0) in
+    (record { low = leb-true _ _ (p1 .0); seven = p2 .0; fits = omega (arith, later-is limit); few = leb-true _ _ (p5 .0) }, p5 .1)
+
+-- what follows the questions may be put after them
+then-else : {A B : Type 0} (b : Bool) (number : ℕ) (r : Reply A) (r′ : Reply B) (f : A → Reply B) → r′ ≡ andThen r f
+    → (b else number then r′) ≡ andThen (b else number then r) f
+then-else true number r r′ f e = e
+then-else false number r r′ f e = refl
+
+then-cut : {A B : Type 0} (id : ℕ) (header body : List ℕ) (limit : ℕ) (r : Reply A) (r′ : Reply B) (f : A → Reply B) → r′ ≡ andThen r f
+    → askCut id header body limit r′ ≡ andThen (askCut id header body limit r) f
+unfolding askCut
+then-cut id header body limit r r′ f e =
+    then-else (leb id 127) 1 _ _ f
+    (then-else (isSevenBit header) 1 _ _ f
+    (then-else (leb (length header) 16383) 4 _ _ f
+    (then-else (leb (length header + 9) (budget limit)) 4 _ _ f
+    (then-else (leb (length (bodyPieces limit (length header) body)) 16383) 5 r r′ f e))))
+
+-- a refusal by the questions is the same whatever follows them
+pub cut-refused : {A B : Type 0} (id : ℕ) (header body : List ℕ) (limit : ℕ) (a : A) (next : Reply B) (number value : ℕ)
+    → askCut id header body limit (granted a) ≡ refused number value → askCut id header body limit next ≡ refused number value
+cut-refused id header body limit a next number value q = then-cut id header body limit (granted a) next (λ _. next) refl ∙ rw q

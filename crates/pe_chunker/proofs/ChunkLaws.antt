@@ -1,0 +1,134 @@
+-- The laws of the chunk of a number: its fields, its range, and the cases of cutting it.
+-- Assumes nothing.
+use Prim.Native.Nat.{ℕ, suc, _+_, _-_, _<_, _≤_}
+use mathlib.Core.Bool.{Bool, true, false, cond, _||_}
+use mathlib.Core.List.{List, []}
+use mathlib.Core.Path.{_≡_, refl, sym, ap, _∙_}
+use native.Mathlib.Omega.{arith}
+use borrow.Author.Tests.{le-leb, lt-leb, eqb-true, eqb-false}
+use lib.Dec.{eqb}
+use lib.ListN.{length, getD, take}
+use lib.Seq.{take-length}
+use Rattle.seven_bit.specs.Reply.{granted, refused}
+use Rattle.seven_bit.specs.SevenBit.{isSevenBit}
+use Rattle.seven_bit.proofs.PartLaws.{part-none}
+use Rattle.pe_frame.specs.Write.{chunkLen, writeChunk}
+use Rattle.pe_frame.proofs.ChunkLaws.{InRange, ask-yes}
+use Rattle.pe_chunker.specs.Cut.{budget, laterCapacity, bodyPieces, chunkAt, cutCount, cutChunk}
+use Rattle.pe_chunker.proofs.CutLaws.{later-is, later-between}
+use Rattle.pe_chunker.proofs.PieceLaws.{first-short, later-short, first-full, later-full}
+use Rattle.pe_chunker.proofs.AskLaws.{Cut, cut-asked, cut-told, cut-refused}
+
+-- the header of a chunk: all of it, or nothing
+pub header-part : (k n : ℕ) (header : List ℕ) → n ≡ cond (eqb k 1) (length header) 0 → take n header ≡ cond (eqb k 1) header []
+header-part k n header e =
+    ap (λ (m : ℕ). take m header) e
+    ∙ go (eqb k 1)
+  where
+    go : (b : Bool) → take (cond b (length header) 0) header ≡ cond b header []
+    go true = take-length header
+    go false = part-none 0 header
+
+pub header-fits : (k n len : ℕ) → n ≡ cond (eqb k 1) len 0 → n ≤ len
+header-fits k n len e = go (eqb k 1) e
+  where
+    go : (b : Bool) → n ≡ cond b len 0 → n ≤ len
+    go true q = omega arith
+    go false q = omega arith
+
+-- what the code hands to the writer is the chunk
+pub chunk-is : (id : ℕ) (header body : List ℕ) (limit k count : ℕ) (h p : List ℕ) → h ≡ cond (eqb k 1) header []
+    → length (bodyPieces limit (length header) body) ≡ count → p ≡ getD (bodyPieces limit (length header) body) (k - 1) []
+    → record { request-id = id; header = h; num-chunks = count; chunk-num = k; property = p } ≡ chunkAt id header body limit k
+unfolding chunkAt
+chunk-is id header body limit k count h p e f g = rw (e, ← f, g)
+
+-- the header and the property fit in the budget beside the nine bytes
+pub chunk-short : (id : ℕ) (header body : List ℕ) (limit k : ℕ) → length header ≤ laterCapacity limit → 1 ≤ k
+    → chunkLen (chunkAt id header body limit k) ≤ budget limit
+unfolding chunkLen chunkAt
+chunk-short id header body limit k h one = go (eqb k 1) refl
+  where
+    go : (b : Bool) → eqb k 1 ≡ b
+        → 9 + length (cond b header []) + length (getD (bodyPieces limit (length header) body) (k - 1) []) ≤ budget limit
+    go true e =
+        let z : k - 1 ≡ 0 = omega (arith, eqb-true k 1 e) in
+        rw z (omega (arith, later-is limit, first-short limit (length header) body))
+    go false e = omega (arith, later-is limit, later-short limit (length header) (k - 1) body)
+
+-- and in a chunk before the last one they fill it
+pub chunk-full : (id : ℕ) (header body : List ℕ) (limit k : ℕ) → length header ≤ laterCapacity limit → 1 ≤ k
+    → k < length (bodyPieces limit (length header) body) → chunkLen (chunkAt id header body limit k) ≡ budget limit
+unfolding chunkLen chunkAt
+chunk-full id header body limit k h one l = go (eqb k 1) refl
+  where
+    go : (b : Bool) → eqb k 1 ≡ b
+        → 9 + length (cond b header []) + length (getD (bodyPieces limit (length header) body) (k - 1) []) ≡ budget limit
+    go true e =
+        let u : k ≡ 1 = eqb-true k 1 e in
+        let z : k - 1 ≡ 0 = omega arith in
+        rw z (omega (arith, later-is limit, first-full limit (length header) body (omega arith)))
+    go false e =
+        let u : k ≡ 1 → ⊥ = eqb-false k 1 e in
+        let z : k - 1 ≡ suc (k - 2) = omega arith in
+        rw z (omega (arith, later-is limit, later-full limit (length header) (k - 2) body (omega arith)))
+
+-- the header's bytes, and that only the first chunk has them
+seven-part : (b : Bool) (header : List ℕ) → isSevenBit header ≡ true → isSevenBit (cond b header []) ≡ true
+unfolding isSevenBit
+seven-part true header e = e
+seven-part false header e = refl
+
+first-only : (b : Bool) (header : List ℕ) → (b || eqb (length (cond b header [])) 0) ≡ true
+first-only true header = refl
+first-only false header = refl
+
+-- every chunk of a cut has its fields in range
+pub chunk-in-range : (id : ℕ) (header body : List ℕ) (limit k : ℕ) → Cut id header body limit → 1 ≤ k
+    → k ≤ length (bodyPieces limit (length header) body) → InRange (chunkAt id header body limit k)
+unfolding chunkAt chunkLen
+chunk-in-range id header body limit k c one l =
+    let s = chunk-short id header body limit k (c .fits) one in
+    let b = later-between limit in
+    let r = later-is limit in
+    let f = c .few in
+    record {
+      id = c .low;
+      header-len = omega arith;
+      property-len = omega arith;
+      count = f;
+      number = omega arith;
+      header-bytes = seven-part (eqb k 1) header (c .seven);
+      first = first-only (eqb k 1) header;
+    }
+
+-- the cases of cutting chunk k
+pub chunk-refused : (id : ℕ) (header body : List ℕ) (limit k room number value : ℕ) → cutCount id header body limit ≡ refused number value
+    → cutChunk id header body limit k room ≡ refused number value
+unfolding cutCount cutChunk
+chunk-refused id header body limit k room number value q = cut-refused id header body limit _ _ number value q
+
+-- what the count tells
+pub count-told : (id : ℕ) (header body : List ℕ) (limit count : ℕ) → cutCount id header body limit ≡ granted count
+    → Cut id header body limit × (length (bodyPieces limit (length header) body) ≡ count)
+unfolding cutCount
+count-told id header body limit count q =
+    let t = cut-told id header body limit _ count q in
+    (t .0, let e = t .1 in cc)
+
+pub chunk-none : (id : ℕ) (header body : List ℕ) (limit k room : ℕ) → Cut id header body limit → k < 1 → cutChunk id header body limit k room ≡ refused 29 0
+unfolding cutChunk
+chunk-none id header body limit k room c h = cut-asked id header body limit _ c ∙ rw (lt-leb _ _ h)
+
+pub chunk-past : (id : ℕ) (header body : List ℕ) (limit k room : ℕ) → Cut id header body limit → 1 ≤ k
+    → length (bodyPieces limit (length header) body) < k → cutChunk id header body limit k room ≡ refused 29 0
+unfolding cutChunk
+chunk-past id header body limit k room c one h = cut-asked id header body limit _ c ∙ rw (le-leb _ _ one, lt-leb _ _ h)
+
+pub chunk-written : (id : ℕ) (header body : List ℕ) (limit k room : ℕ) → Cut id header body limit → 1 ≤ k
+    → k ≤ length (bodyPieces limit (length header) body) → cutChunk id header body limit k room ≡ writeChunk (chunkAt id header body limit k) room
+unfolding cutChunk writeChunk
+chunk-written id header body limit k room c one h =
+    cut-asked id header body limit _ c
+    ∙ rw (le-leb _ _ one, le-leb _ _ h)
+    (sym (ask-yes (chunkAt id header body limit k) _ (chunk-in-range id header body limit k c one h)))

@@ -1,0 +1,5 @@
+pub mod CutLaws
+pub mod PieceLaws
+pub mod AskLaws
+pub mod ChunkLaws
+pub mod Theorems

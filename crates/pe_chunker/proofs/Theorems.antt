@@ -1,0 +1,96 @@
+-- What is true of every cut: the pieces are the body, their number, the size of a message, and what a chunk holds.
+-- Assumes nothing.
+use Prim.Native.Nat.{ℕ, _+_, _-_, _/_, _<_, _≤_}
+use mathlib.Core.Bool.{true}
+use mathlib.Core.List.{List, [], _∷_, _++_}
+use mathlib.Core.Path.{_≡_, sym, ap, _∙_}
+use native.Mathlib.Omega.{arith}
+use lib.ListN.{length, length-append}
+use lib.Seq.{take-nil}
+use Rattle.seven_bit.specs.Parts.{joined}
+use Rattle.seven_bit.specs.Reply.{granted}
+use Rattle.seven_bit.specs.SevenBit.{isSevenBit}
+use Rattle.midici_core.specs.Header.{Header, headerBytes}
+use Rattle.midici_core.proofs.HeaderLaws.{header-length}
+use Rattle.pe_frame.specs.Chunk.{Chunk}
+use Rattle.pe_frame.specs.Write.{chunkBytes, chunkLen}
+use Rattle.pe_frame.proofs.ChunkLaws.{InRange, chunk-length, write-granted}
+use Rattle.pe_chunker.specs.Cut.{clamped, budget, laterCapacity, firstCapacity, cutUp, bodyPieces, chunkAt, cutCount, cutChunk}
+use Rattle.pe_chunker.proofs.CutLaws.{budget-is, later-is, first-is}
+use Rattle.pe_chunker.proofs.PieceLaws.{joined-pieces, pieces-count}
+use Rattle.pe_chunker.proofs.AskLaws.{cut-asked}
+use Rattle.pe_chunker.proofs.ChunkLaws.{count-told, chunk-short, chunk-full, chunk-in-range, chunk-written}
+
+-- The pieces of a cut, joined, are the body.
+pub pieces-are-the-body : (limit header-len : ℕ) (body : List ℕ) → joined (bodyPieces limit header-len body) ≡ body
+pieces-are-the-body = joined-pieces
+
+-- The count is 1 for the first chunk and, for what it leaves of the body, the ceiling of the division by a later chunk's capacity.
+pub count-is : (id : ℕ) (header body : List ℕ) (limit count : ℕ) → cutCount id header body limit ≡ granted count
+    → count ≡ 1 + (length body - firstCapacity limit (length header) + (laterCapacity limit - 1)) / laterCapacity limit
+count-is id header body limit count q =
+    sym (count-told id header body limit count q .1)
+    ∙ pieces-count limit (length header) body
+    ∙ ap (λ (a : ℕ). 1 + (length body - a + (laterCapacity limit - 1)) / laterCapacity limit) (sym (first-is limit (length header)))
+
+-- An empty body is one empty piece,
+pub empty-pieces : (limit header-len : ℕ) → bodyPieces limit header-len [] ≡ [] ∷ []
+unfolding bodyPieces cutUp
+empty-pieces limit header-len = rw (take-nil {A = ℕ} (firstCapacity limit header-len))
+
+-- so it is cut into one chunk where the header fits,
+pub empty-body-is-one-chunk : (id : ℕ) (header : List ℕ) (limit : ℕ) → id ≤ 127 → isSevenBit header ≡ true → length header + 9 ≤ budget limit
+    → cutCount id header [] limit ≡ granted 1
+unfolding cutCount
+empty-body-is-one-chunk id header limit i s h =
+    let e : length (bodyPieces limit (length header) []) ≡ 1 = ap length (empty-pieces limit (length header)) in
+    cut-asked id header [] limit _ (record { low = i; seven = s; fits = omega (arith, later-is limit); few = omega arith }) ∙ rw e
+
+-- which is number 1 of 1, with the header and an empty property.
+pub empty-body-chunk : (id : ℕ) (header : List ℕ) (limit : ℕ)
+    → chunkAt id header [] limit 1 ≡ record { request-id = id; header = header; num-chunks = 1; chunk-num = 1; property = [] }
+unfolding chunkAt
+empty-body-chunk id header limit = rw (empty-pieces limit (length header))
+
+-- a whole SysEx message: F0, a CI header, a chunk and F7
+abbrev pub message : Header → Chunk → List ℕ
+message ci c = 0xF0 ∷ headerBytes ci ++ chunkBytes c ++ (0xF7 ∷ [])
+
+message-length : (ci : Header) (c : Chunk) → length (message ci c) ≡ 15 + chunkLen c
+message-length ci c = simp (length-append, header-length, chunk-length) (omega arith)
+
+-- A whole SysEx message with a chunk of a cut is never longer than the clamped limit,
+pub message-fits : (id : ℕ) (header body : List ℕ) (limit count k : ℕ) (ci : Header) → cutCount id header body limit ≡ granted count → 1 ≤ k → k ≤ count
+    → length (message ci (chunkAt id header body limit k)) ≤ clamped limit
+message-fits id header body limit count k ci q one l =
+    let t = count-told id header body limit count q in
+    let s = chunk-short id header body limit k (t .0 .fits) one in
+    omega (arith, budget-is limit, message-length ci (chunkAt id header body limit k))
+
+-- and before the last chunk it is as long.
+pub message-full : (id : ℕ) (header body : List ℕ) (limit count k : ℕ) (ci : Header) → cutCount id header body limit ≡ granted count → 1 ≤ k → k < count
+    → length (message ci (chunkAt id header body limit k)) ≡ clamped limit
+message-full id header body limit count k ci q one l =
+    let t = count-told id header body limit count q in
+    let e = t .1 in
+    let s = chunk-full id header body limit k (t .0 .fits) one (omega arith) in
+    omega (arith, budget-is limit, message-length ci (chunkAt id header body limit k))
+
+-- Every chunk of a cut has its fields in range: id, header, count, number and property, and a header in the first one only.
+pub fields-in-range : (id : ℕ) (header body : List ℕ) (limit count k : ℕ) → cutCount id header body limit ≡ granted count → 1 ≤ k → k ≤ count
+    → InRange (chunkAt id header body limit k)
+fields-in-range id header body limit count k q one l =
+    let t = count-told id header body limit count q in
+    let e = t .1 in
+    chunk-in-range id header body limit k (t .0) one (omega arith)
+
+-- A buffer of the budget is long enough for every chunk of a cut.
+pub budget-is-room : (id : ℕ) (header body : List ℕ) (limit count k room : ℕ) → cutCount id header body limit ≡ granted count → 1 ≤ k → k ≤ count
+    → budget limit ≤ room → cutChunk id header body limit k room ≡ granted (chunkBytes (chunkAt id header body limit k))
+budget-is-room id header body limit count k room q one l r =
+    let t = count-told id header body limit count q in
+    let e = t .1 in
+    let n : k ≤ length (bodyPieces limit (length header) body) = omega arith in
+    let s = chunk-short id header body limit k (t .0 .fits) one in
+    chunk-written id header body limit k room (t .0) one n
+    ∙ write-granted (chunkAt id header body limit k) room (chunk-in-range id header body limit k (t .0) one n) (unfold chunkLen in omega arith)

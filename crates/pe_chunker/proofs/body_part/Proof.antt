@@ -1,0 +1,30 @@
+use Prim.Native.Nat.{_*_, _≤_}
+use native.Mathlib.Omega.{arith}
+use borrow.Author.Needs.{needs}
+use Rattle.pe_chunker.proofs.body_part.Statement.{statement}
+use Rattle.pe_chunker.proofs.body_part.Tie as tie
+use native.Mathlib.Nat.{mul-le-mul}
+
+-- src/lib.rt:121:16
+mul-room : tie.Need-mul-room
+mul-room c =
+    let a = c .args in
+    let n : a .chunks ≤ 65535 = omega arith in
+    let l : a .later ≤ 4072 = omega arith in
+    let m : a .chunks * a .later ≤ 65535 * 4072 = mul-le-mul n l in
+    omega arith
+
+-- src/lib.rt:123:9
+returns : tie.Need-returns
+returns c = search needs
+
+-- src/lib.rt:126:9
+returns-2 : tie.Need-returns-2
+returns-2 c = search needs
+
+-- src/lib.rt:117:1
+returns-3 : tie.Need-returns-3
+returns-3 c = search needs
+
+pub body-part-spec : {M : Type 1} → statement M
+body-part-spec = tie.close (tie.spec mul-room returns returns-2 returns-3)

@@ -1,0 +1,3 @@
+pub mod ChunkLaws
+pub mod MessageLaws
+pub mod RoundTrip

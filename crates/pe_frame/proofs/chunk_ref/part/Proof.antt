@@ -1,0 +1,33 @@
+use mathlib.Core.Path.{ap}
+use Prim.Native.Nat.{ℕ}
+use borrow.Author.Needs.{needs}
+use Rattle.pe_frame.proofs.chunk_ref.part.Statement.{statement}
+use Rattle.pe_frame.proofs.chunk_ref.part.Tie as tie
+use native.Mathlib.Nat.{add-sub-cancel-left}
+use denote.Ref.{now}
+use Rattle.seven_bit.specs.Parts.{part}
+
+-- src/chunk_ref.rt:30:15
+add-end : tie.Need-add-end
+add-end c = search needs
+
+-- src/chunk_ref.rt:31:5
+sub-result : tie.Need-sub-result
+sub-result c = search needs
+
+-- src/chunk_ref.rt:31:5
+part-result-start : tie.Need-part-result-start
+part-result-start c = search needs
+
+-- src/chunk_ref.rt:31:5
+part-result-end : tie.Need-part-result-end
+part-result-end c = search needs
+
+-- src/chunk_ref.rt:26:1
+returns : tie.Need-returns
+returns c =
+    let a = c .before .args in
+    ap (λ (k : ℕ). part (a .at) k (now (a .s))) (add-sub-cancel-left (a .at) (a .len))
+
+pub part-spec : {M : Type 1} → statement M
+part-spec = tie.close (tie.spec add-end sub-result part-result-start part-result-end returns)

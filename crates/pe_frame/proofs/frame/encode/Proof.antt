@@ -1,0 +1,92 @@
+use mathlib.Core.Path.{_≡_, refl, sym, ap, _∙_}
+use Prim.Native.Nat.{ℕ, _+_}
+use lib.ListN.{length}
+use native.Mathlib.Omega.{arith}
+use borrow.Author.Needs.{needs}
+use Rattle.pe_frame.proofs.frame.encode.Statement.{statement}
+use Rattle.pe_frame.proofs.frame.encode.Tie as tie
+use denote.Ref.{now}
+use Rattle.seven_bit.specs.Reply.{granted, outcome}
+use Rattle.seven_bit.proofs.PartLaws.{put-front, length-put}
+use Rattle.seven_bit.proofs.ReplyLaws.{wrote, same-grant}
+use Rattle.pe_wire.specs.Wire.{encodedTold}
+use Rattle.pe_wire.specs.declared.wire.Encoded.{Encoded}
+use Rattle.pe_frame.specs.Chunk.{Chunk}
+use Rattle.pe_frame.specs.Write.{chunkLen, chunkBytes}
+use Rattle.pe_frame.proofs.ChunkLaws.{InRange, ask-told, write-refused, write-short, write-granted, chunk-length}
+
+abbrev chunk : tie.Start → Chunk
+chunk c = record { request-id = c .args .request-id; header = now (c .args .header); num-chunks = c .args .num-chunks; chunk-num = c .args .chunk-num; property = now (c .args .property) }
+
+abbrev size : tie.Start → ℕ
+size c = 9 + length (now (c .args .header)) + length (now (c .args .property))
+
+abbrev start : tie.After-answer → tie.Start
+start c = c .before .before .before .before .before .before
+
+-- what the questions' answer tells
+told : (c : tie.After-answer) → InRange (chunk (start c)) × (granted (size (start c)) ≡ granted (c .answer .given .0 .0))
+told c = ask-told (chunk (start c)) _ _ (sym (c .before .before .questions .ensures) ∙ ap encodedTold (c .answer .given .1))
+
+need : (c : tie.After-answer) → size (start c) ≡ c .answer .given .0 .0
+need c = same-grant _ _ _ refl (told c .1)
+
+-- src/frame.rt:182:9
+questions-requires : tie.Need-questions-requires
+questions-requires c κs = search needs
+
+-- src/frame.rt:183:24
+enum-known-answer : tie.Need-enum-known-answer
+enum-known-answer c = search needs
+
+-- src/frame.rt:184:9
+enum-told : tie.Need-enum-told
+enum-told c = search needs
+
+-- src/frame.rt:184:9
+returns : tie.Need-returns
+returns c =
+    let g = c .enum-told .given .1 in
+    let e = sym (c .before .before .questions .ensures) ∙ ap encodedTold g in
+    rw (write-refused (chunk (c .before .before .before .before .before .before)) _ _ _ _ e) (ap (λ (r : Encoded). outcome (encodedTold r) (now (c .before .before .before .before .before .before .args .out))) g)
+
+-- src/frame.rt:187:9
+returns-2 : tie.Need-returns-2
+returns-2 c =
+    let n = c .before .before in
+    rw (write-short (chunk (start n)) (length (now (start n .args .out))) (told n .0) (omega (arith, need n, c .if1 .taken)))
+
+-- src/frame.rt:189:5
+fill-requires : tie.Need-fill-requires
+fill-requires c κs =
+    let n = c .before .before .before in
+    let r = told n .0 in
+    (r .header-len, r .property-len, r .count, r .number, omega (arith, need n, c .before .if1 .left))
+
+-- src/frame.rt:172:1
+same-length : tie.Need-same-length
+same-length c = ap length (c .before .before .fill .ensures) ∙ length-put (now (start (c .before .before .before .before .before .before) .args .out)) _ _
+
+-- src/frame.rt:172:1
+returns-3 : tie.Need-returns-3
+unfolding chunkLen
+returns-3 c =
+    let n = c .before .before .before .before .before .before in
+    let a = start n in
+    let l = chunk-length (chunk a) in
+    let room = c .before .before .before .before .if1 .left in
+    rw (write-granted (chunk a) (length (now (a .args .out))) (told n .0) (omega (arith, need n, room)))
+    (wrote (chunkBytes (chunk a)) (now (a .args .out)) _ _ (l ∙ need n) (c .before .before .fill .ensures ∙ put-front (now (a .args .out)) (chunkBytes (chunk a)) (omega (arith, l, need n, room))))
+
+pub encode-spec : {M : Type 1} → statement M
+encode-spec =
+    tie.close
+    (tie.spec
+    questions-requires
+    enum-known-answer
+    enum-told
+    returns
+    returns-2
+    fill-requires
+    same-length
+    returns-3)
