@@ -12,14 +12,15 @@ use Rattle.seven_bit.specs.Reply.{granted}
 use Rattle.seven_bit.specs.SevenBit.{isSevenBit}
 use Rattle.midici_core.specs.Header.{Header, headerBytes}
 use Rattle.midici_core.proofs.HeaderLaws.{header-length}
-use Rattle.pe_frame.specs.Chunk.{Chunk}
+use Rattle.pe_frame.specs.Chunk.{Chunk, readFields, chunkOf}
 use Rattle.pe_frame.specs.Write.{chunkBytes, chunkLen}
+use Rattle.pe_frame.proofs.RoundTrip.{fields, written-then-read}
 use Rattle.pe_frame.proofs.ChunkLaws.{InRange, chunk-length, write-granted}
 use Rattle.pe_chunker.specs.Cut.{clamped, budget, laterCapacity, firstCapacity, cutUp, bodyPieces, chunkAt, cutCount, cutChunk}
 use Rattle.pe_chunker.proofs.CutLaws.{budget-is, later-is, first-is}
 use Rattle.pe_chunker.proofs.PieceLaws.{joined-pieces, pieces-count}
 use Rattle.pe_chunker.proofs.AskLaws.{cut-asked}
-use Rattle.pe_chunker.proofs.ChunkLaws.{count-told, chunk-short, chunk-full, chunk-in-range, chunk-written}
+use Rattle.pe_chunker.proofs.ChunkLaws.{count-told, chunk-short, chunk-full, chunk-in-range, chunk-written, chunk-told}
 
 -- The pieces of a cut, joined, are the body.
 pub pieces-are-the-body : (limit header-len : ℕ) (body : List ℕ) → joined (bodyPieces limit header-len body) ≡ body
@@ -94,3 +95,11 @@ budget-is-room id header body limit count k room q one l r =
     let s = chunk-short id header body limit k (t .0 .fits) one in
     chunk-written id header body limit k room (t .0) one n
     ∙ write-granted (chunkAt id header body limit k) room (chunk-in-range id header body limit k (t .0) one n) (unfold chunkLen in omega arith)
+
+-- Every chunk that was written reads back as its fields, and its header and property as they were cut.
+pub chunk-reads-back : (id : ℕ) (header body : List ℕ) (limit k room : ℕ) (bs : List ℕ) → cutChunk id header body limit k room ≡ granted bs
+    → (readFields bs ≡ granted (fields (chunkAt id header body limit k)))
+    × (chunkOf bs (fields (chunkAt id header body limit k)) ≡ chunkAt id header body limit k)
+chunk-reads-back id header body limit k room bs q =
+    let t = chunk-told id header body limit k room bs q in
+    written-then-read (chunkAt id header body limit k) room bs (sym (chunk-written id header body limit k room (t .0) (t .1) (t .2)) ∙ q)
