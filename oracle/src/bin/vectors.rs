@@ -7,16 +7,17 @@ use oracle::random::Rng;
 use oracle::{original, random};
 use std::collections::{BTreeMap, BTreeSet};
 
-/// What the program's output holds before a call, and how long an input may be.
+/// What the program's output holds before a call, how long an input may be, and how much room the program has.
 const FILL: u8 = 0xEE;
 const LONGEST: usize = 120;
+const ROOM: usize = 256;
 
 /// How many cases there are of each answer of a function, and how many are tried to find them.
 const OF_EACH: usize = 6;
 const TRIES: usize = 20_000;
 
-/// The refusals of the functions that are compared.
-const REFUSALS: [u8; 12] = [1, 2, 3, 9, 21, 22, 23, 24, 25, 26, 27, 28];
+/// The refusals of the functions that are compared, but for 5: it takes a body of 1.7 million bytes.
+const REFUSALS: [u8; 15] = [1, 2, 3, 4, 8, 9, 21, 22, 23, 24, 25, 26, 27, 28, 29];
 
 fn answer(case: &Case) -> Outcome {
     original::answer(case, case.lent(|_| FILL))
@@ -51,7 +52,8 @@ fn sample(op: Op) -> Vec<Case> {
     let mut seen = BTreeSet::new();
     let mut taken: BTreeMap<Answer, usize> = BTreeMap::new();
     let cases = (0..TRIES).map(|_| random::case(op, &mut rng));
-    let new = cases.filter(|case| case.input.len() <= LONGEST && seen.insert(case.input.clone()));
+    let short = cases.filter(|case| case.input.len() <= LONGEST && case.lent(|_| FILL).len() <= ROOM);
+    let new = short.filter(|case| seen.insert(case.input.clone()));
     new.filter(|case| {
         let n = taken.entry(answer(case).answer(op)).or_default();
         *n += 1;
