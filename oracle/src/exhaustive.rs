@@ -33,6 +33,7 @@ pub fn inputs(op: Op, each: &mut dyn FnMut(&[u8])) {
         Op::NegotiatedRequests => any_lists(2, each),
         Op::ChunkDecode => chunks::decode(each),
         Op::ChunkEncode => chunks::encode(each),
+        Op::ChunkRewrite => chunks::rewrite(each),
         Op::ClampMaxSysex | Op::PePayloadBudget | Op::LaterCapacity => chunks::limits(each),
         Op::FirstCapacity => chunks::first_capacity(each),
         Op::ChunkCount => chunks::chunk_count(each),

@@ -50,6 +50,8 @@ pub enum Op {
     ChunkDecode,
     /// Room (2), CHUNK.
     ChunkEncode,
+    /// Room (2), the chunk.
+    ChunkRewrite,
     /// Limit (4); so too the next two.
     ClampMaxSysex,
     PePayloadBudget,
@@ -65,7 +67,7 @@ pub enum Op {
 }
 
 impl Op {
-    pub const ALL: [Op; 31] = [
+    pub const ALL: [Op; 32] = [
         Op::ReadU14Le7,
         Op::WriteU14Le7,
         Op::MuidFromU32,
@@ -90,6 +92,7 @@ impl Op {
         Op::NegotiatedRequests,
         Op::ChunkDecode,
         Op::ChunkEncode,
+        Op::ChunkRewrite,
         Op::ClampMaxSysex,
         Op::PePayloadBudget,
         Op::LaterCapacity,
@@ -122,6 +125,7 @@ impl Op {
                 | Mcoded7Decode
                 | Mcoded7Encode
                 | ChunkEncode
+                | ChunkRewrite
                 | SplitChunk
                 | WholeEncode
         )

@@ -75,6 +75,7 @@ pub fn answer(case: &Case, out: Vec<u8>) -> Outcome {
         Op::NegotiatedRequests => negotiated_requests(u8_at(input, 0), u8_at(input, 1)),
         Op::ChunkDecode => chunk_decode(input),
         Op::ChunkEncode => chunk_encode(Chunk::read(from(input, 2)), out),
+        Op::ChunkRewrite => chunk_rewrite(from(input, 2), out),
         Op::ClampMaxSysex => granted([chunker::clamp_max_sysex(u32_at(input, 0))]),
         Op::PePayloadBudget => granted([chunker::pe_payload_budget(u32_at(input, 0)) as u64]),
         Op::LaterCapacity => granted([chunker::later_chunk_property_capacity(u32_at(input, 0)) as u64]),
@@ -254,6 +255,12 @@ fn owned(chunk: Chunk) -> PeChunk {
 fn chunk_encode(chunk: Chunk, mut out: Vec<u8>) -> Outcome {
     let reply = owned(chunk).encode(&mut out).map(|n| vec![n as u64]).map_err(Refusal::from);
     Outcome { reply, out }
+}
+
+/// The original's view made its own and written again.
+fn chunk_rewrite(data: &[u8], mut out: Vec<u8>) -> Outcome {
+    let written = PeChunkRef::decode(data).and_then(|chunk| chunk.to_owned().encode(&mut out));
+    Outcome { reply: written.map(|n| vec![n as u64]).map_err(Refusal::from), out }
 }
 
 /// No case has a length from 2^64 - 9 on: there the original's sum overflows.

@@ -78,6 +78,7 @@ pub fn case(op: Op, rng: &mut Rng) -> Case {
         Op::NegotiatedRequests => rng.bytes(2),
         Op::ChunkDecode => chunks::damaged(rng),
         Op::ChunkEncode => chunks::encoded(rng),
+        Op::ChunkRewrite => chunks::rewritten(rng),
         Op::ClampMaxSysex | Op::PePayloadBudget | Op::LaterCapacity => chunks::limit(rng).to_le_bytes().to_vec(),
         Op::FirstCapacity => chunks::first_capacity(rng),
         Op::ChunkCount => chunks::counted(rng),

@@ -1,5 +1,5 @@
 //! Chunks and the cutter at the boundaries.
-use super::{any_lists, fill, muids, with_room};
+use super::{any_lists, changed, fill, muids, with_room};
 use crate::case::{Chunk, List, Whole};
 use midici_pe::chunker::{first_chunk_property_capacity, later_chunk_property_capacity, split};
 use midici_pe::frame::PeChunk;
@@ -34,20 +34,30 @@ fn meant(at: usize) -> &'static [u8] {
     }
 }
 
-/// Every chunk of up to 11 bytes over those bytes; and long ones, exact, one byte short and with one byte more.
+/// Every chunk of up to 11 bytes over those bytes, and the long ones.
 pub fn decode(each: &mut dyn FnMut(&[u8])) {
     (0..=11).for_each(|n| fill(&mut vec![0; n], 0, &meant, each));
-    let lengths = [0, 1, 127, 128, 129, 16_383];
-    for (header_len, property_len) in pairs(&lengths) {
+    long_chunks(each);
+}
+
+/// Every chunk of up to 11 bytes of a few, and the long ones; with room for one byte less, for all, and for one more.
+pub fn rewrite(each: &mut dyn FnMut(&[u8])) {
+    let mut roomy = |chunk: &[u8]| rooms(chunk.len()).iter().for_each(|room| each(&with_room(*room, chunk)));
+    (1..=11).for_each(|n| super::lists(&[0x00, 0x01, 0x80], n, &mut roomy));
+    long_chunks(&mut roomy);
+}
+
+/// Chunks with lengths at boundaries: exact, one byte short, with one byte more, and with one bit of the framing changed.
+fn long_chunks(each: &mut dyn FnMut(&[u8])) {
+    for (header_len, property_len) in pairs(&[0, 1, 127, 128, 129, 16_383]) {
         let (header, property) = (header(header_len), body(property_len));
         let good = PeChunk { request_id: 5, header, num_chunks: 2, chunk_num: 1, property }.to_vec().expect("a good chunk");
         each(&good);
         each(&good[..good.len() - 1]);
         each(&[&good, &[0x00][..]].concat());
-        (0..9).map(|i| if i < 3 { i } else { i + header_len }).for_each(|at| {
-            each(&super::changed(&good, &[(at, good[at] ^ 0x80)]));
-            each(&super::changed(&good, &[(at, good[at] ^ 0x01)]));
-        });
+        for at in (0..9).map(|i| if i < 3 { i } else { i + header_len }) {
+            [0x80, 0x01].iter().for_each(|bit| each(&changed(&good, &[(at, good[at] ^ bit)])));
+        }
     }
 }
 

@@ -110,6 +110,11 @@ pub fn encoded(rng: &mut Rng) -> Vec<u8> {
     with_room(rng, need, input)
 }
 
+pub fn rewritten(rng: &mut Rng) -> Vec<u8> {
+    let chunk = if rng.once_in(2) { good(rng) } else { damaged(rng) };
+    with_room(rng, chunk.len(), chunk)
+}
+
 pub fn whole(rng: &mut Rng) -> Vec<u8> {
     let (input, need) = written(rng);
     let kind = if rng.once_in(8) { rng.byte() } else { rng.pick(&KINDS) };

@@ -120,6 +120,7 @@ extern "C" {
         out: *mut u8,
         out_len: usize,
     ) -> Answer;
+    pub fn codec_rewrite(bytes: *const u8, bytes_len: usize, out: *mut u8, out_len: usize) -> Answer;
     pub fn codec_clamp_max_sysex(negotiated: u32) -> u32;
     pub fn codec_pe_payload_budget(max_sysex: u32) -> u64;
     pub fn codec_first_chunk_property_capacity(max_sysex: u32, header_len: usize) -> Answer;

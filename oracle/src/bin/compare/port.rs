@@ -32,6 +32,7 @@ pub fn answer(case: &Case, mut out: Vec<u8>) -> Outcome {
         Op::NegotiatedRequests => Ok(vec![unsafe { ffi::codec_negotiated_requests(u8_at(input, 0), u8_at(input, 1)) }.into()]),
         Op::ChunkDecode => return chunk_decode(input),
         Op::ChunkEncode => chunk_encode(Chunk::read(from(input, 2)), &mut out),
+        Op::ChunkRewrite => copying(ffi::codec_rewrite, from(input, 2), &mut out),
         Op::ClampMaxSysex => Ok(vec![unsafe { ffi::codec_clamp_max_sysex(u32_at(input, 0)) }.into()]),
         Op::PePayloadBudget => Ok(vec![unsafe { ffi::codec_pe_payload_budget(u32_at(input, 0)) }]),
         Op::LaterCapacity => Ok(vec![unsafe { ffi::codec_later_chunk_property_capacity(u32_at(input, 0)) }]),
