@@ -52,15 +52,15 @@ messageAnswerOf (refused number value) = record { refusal = number; value = valu
 
 abbrev pub chunkOut : ℕ → ℕ → Fields → ChunkAnswer
 chunkOut number value f = record {
-      refusal = number;
-      value = value;
-      «request_id» = f .request-id;
-      «header_len» = f .header-len;
-      «num_chunks» = f .num-chunks;
-      «chunk_num» = f .chunk-num;
-      «property_at» = f .property-at;
-      «property_len» = f .property-len;
-    }
+  refusal = number;
+  value = value;
+  «request_id» = f .request-id;
+  «header_len» = f .header-len;
+  «num_chunks» = f .num-chunks;
+  «chunk_num» = f .chunk-num;
+  «property_at» = f .property-at;
+  «property_len» = f .property-len;
+}
 
 abbrev pub noFields : Fields
 noFields = record { request-id = 0; header-len = 0; num-chunks = 0; chunk-num = 0; property-at = 0; property-len = 0 }

@@ -94,14 +94,7 @@ pub extern "C" fn codec_encode_chunk(
 ) -> Answer
     ensures { λ r. ⌜ written r (now (out .exit)) ≡ writtenOf (writing (writeChunk (record { request-id = «request_id»; header = now (header .entry); num-chunks = «num_chunks»; chunk-num = «chunk_num»; property = now (property .entry) }) (length (now (out .entry)))) (now (out .entry))) ⌝ }
 {
-    pe_encoded(pe_frame::frame::encode(
-        request_id,
-        header,
-        num_chunks,
-        chunk_num,
-        property,
-        out,
-    ))
+    pe_encoded(pe_frame::frame::encode(request_id, header, num_chunks, chunk_num, property, out))
 }
 
 #[no_mangle]

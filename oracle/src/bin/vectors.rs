@@ -23,9 +23,9 @@ fn answer(case: &Case) -> Outcome {
     original::answer(case, case.lent(|_| FILL))
 }
 
-/// Document 01's examples of these functions, and the ends of the counter and of the requests.
+/// Document 01's examples of these functions, as far as they are short, and the ends of the counter and of the requests.
 fn examples() -> Vec<Case> {
-    let examples: [(Op, &[u8]); 16] = [
+    let examples: [(Op, &[u8]); 26] = [
         (Op::ReadU14Le7, &[0x68, 0x07]),
         (Op::ReadU14Le7, &[0x80, 0x00]),
         (Op::WriteU14Le7, &[2, 0, 0xFF, 0x3F]),
@@ -42,6 +42,16 @@ fn examples() -> Vec<Case> {
         (Op::NegotiatedRequests, &[4, 0]),
         (Op::NegotiatedRequests, &[4, 3]),
         (Op::NegotiatedRequests, &[4, 255]),
+        (Op::ChunkDecode, &[0x05, 0x02, 0x00, 0x7B, 0x7D, 0x01, 0x00, 0x01, 0x00, 0x00, 0x00]),
+        (Op::ChunkDecode, &[0x05, 0x02, 0x00, 0x7B, 0x7D, 0x01, 0x00, 0x01, 0x00, 0x00, 0x00, 0x00]),
+        (Op::ChunkDecode, &[0x05, 0x02, 0x00, 0x7B, 0x7D, 0x01, 0x00, 0x01, 0x00, 0x00]),
+        (Op::ChunkDecode, &[0x05, 0x01, 0x00, 0x7B, 0x02, 0x00, 0x02, 0x00, 0x00, 0x00]),
+        (Op::ChunkDecode, &[0x05, 0x00, 0x00, 0x01, 0x00, 0x00, 0x00, 0x01, 0x00, 0xFF]),
+        (Op::LaterCapacity, &[0, 0, 0, 0]),
+        (Op::LaterCapacity, &[0x88, 0x13, 0, 0]),
+        (Op::FirstCapacity, &[128, 0, 0, 0, 104]),
+        (Op::FirstCapacity, &[128, 0, 0, 0, 105]),
+        (Op::ChunkCount, &[5, 0, 1, 0, 0, 2, 0, 0x7B, 0x7D]),
     ];
     examples.iter().map(|(op, input)| Case { op: *op, input: input.to_vec() }).collect()
 }
