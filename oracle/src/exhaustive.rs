@@ -1,4 +1,6 @@
 //! All inputs of a function, where they are few; else all at the boundaries.
+mod chunks;
+
 use crate::case::Fields;
 use crate::op::Op;
 
@@ -29,6 +31,14 @@ pub fn inputs(op: Op, each: &mut dyn FnMut(&[u8])) {
         Op::Mcoded7Decode | Op::Mcoded7Encode => mcoded7(each),
         Op::FirstRequestId => each(&[]),
         Op::NegotiatedRequests => any_lists(2, each),
+        Op::ChunkDecode => chunks::decode(each),
+        Op::ChunkEncode => chunks::encode(each),
+        Op::ChunkRewrite => chunks::rewrite(each),
+        Op::ClampMaxSysex | Op::PePayloadBudget | Op::LaterCapacity => chunks::limits(each),
+        Op::FirstCapacity => chunks::first_capacity(each),
+        Op::ChunkCount => chunks::chunk_count(each),
+        Op::SplitChunk => chunks::split_chunk(each),
+        Op::WholeEncode => chunks::whole_encode(each),
     }
 }
 

@@ -1,7 +1,9 @@
 //! The functions that are compared.
 
 /// How a case's input reads, of every function; bytes that are missing are 0. Numbers of two and four bytes have the low one
-/// first. HEADER is device, kind and version, a byte each, and source and destination, four bytes each.
+/// first. HEADER is device, kind and version, a byte each, and source and destination, four bytes each. CHUNK is request id,
+/// chunk count (2), chunk number (2), the header's length (2), the header and the property. LIST is request id, limit (4), the
+/// header's length (2), the header and the body.
 #[derive(Clone, Copy, Debug, PartialEq, Eq)]
 pub enum Op {
     /// The bytes.
@@ -44,10 +46,28 @@ pub enum Op {
     AllocOutRequestId,
     /// Our requests, theirs.
     NegotiatedRequests,
+    /// The chunk.
+    ChunkDecode,
+    /// Room (2), CHUNK.
+    ChunkEncode,
+    /// Room (2), the chunk.
+    ChunkRewrite,
+    /// Limit (4); so too the next two.
+    ClampMaxSysex,
+    PePayloadBudget,
+    LaterCapacity,
+    /// Limit (4), the header's length (8).
+    FirstCapacity,
+    /// LIST.
+    ChunkCount,
+    /// Room (2), chunk number (2), LIST.
+    SplitChunk,
+    /// Room (2), kind, source (4), destination (4), CHUNK.
+    WholeEncode,
 }
 
 impl Op {
-    pub const ALL: [Op; 22] = [
+    pub const ALL: [Op; 32] = [
         Op::ReadU14Le7,
         Op::WriteU14Le7,
         Op::MuidFromU32,
@@ -70,6 +90,16 @@ impl Op {
         Op::FirstRequestId,
         Op::AllocOutRequestId,
         Op::NegotiatedRequests,
+        Op::ChunkDecode,
+        Op::ChunkEncode,
+        Op::ChunkRewrite,
+        Op::ClampMaxSysex,
+        Op::PePayloadBudget,
+        Op::LaterCapacity,
+        Op::FirstCapacity,
+        Op::ChunkCount,
+        Op::SplitChunk,
+        Op::WholeEncode,
     ];
 
     /// The byte by which the program `replay` knows it.
@@ -86,7 +116,19 @@ impl Op {
     /// Does it write into a lent output?
     pub fn writes(self) -> bool {
         use Op::*;
-        matches!(self, WriteU14Le7 | HeaderEncode | CapsEncode | MessageEncode | Mcoded7Decode | Mcoded7Encode)
+        matches!(
+            self,
+            WriteU14Le7
+                | HeaderEncode
+                | CapsEncode
+                | MessageEncode
+                | Mcoded7Decode
+                | Mcoded7Encode
+                | ChunkEncode
+                | ChunkRewrite
+                | SplitChunk
+                | WholeEncode
+        )
     }
 
     /// Is its first value a yes or a no?

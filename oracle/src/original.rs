@@ -1,5 +1,5 @@
 //! The original's answers.
-use crate::case::{from, u16_at, u32_at, u8_at, words, Case, Fields};
+use crate::case::{from, u16_at, u32_at, u64_at, u8_at, words, Case, Chunk, Fields, List, Whole};
 use crate::op::Op;
 use crate::outcome::{Outcome, Refusal, Reply};
 use midici_core::error::CiError;
@@ -10,7 +10,8 @@ use midici_core::pe_msg::PeMessage;
 use midici_core::spec;
 use midici_pe::controller::{Caps, PeController};
 use midici_pe::error::PeError;
-use midici_pe::{mcoded7, wire};
+use midici_pe::frame::{PeChunk, PeChunkRef};
+use midici_pe::{chunker, mcoded7, wire};
 use rand_core::RngCore;
 
 impl From<CiError> for Refusal {
@@ -72,6 +73,16 @@ pub fn answer(case: &Case, out: Vec<u8>) -> Outcome {
         Op::FirstRequestId => granted([PeController::new(0).counter()]),
         Op::AllocOutRequestId => alloc_out_request_id(u8_at(input, 0)),
         Op::NegotiatedRequests => negotiated_requests(u8_at(input, 0), u8_at(input, 1)),
+        Op::ChunkDecode => chunk_decode(input),
+        Op::ChunkEncode => chunk_encode(Chunk::read(from(input, 2)), out),
+        Op::ChunkRewrite => chunk_rewrite(from(input, 2), out),
+        Op::ClampMaxSysex => granted([chunker::clamp_max_sysex(u32_at(input, 0))]),
+        Op::PePayloadBudget => granted([chunker::pe_payload_budget(u32_at(input, 0)) as u64]),
+        Op::LaterCapacity => granted([chunker::later_chunk_property_capacity(u32_at(input, 0)) as u64]),
+        Op::FirstCapacity => first_capacity(u32_at(input, 0), u64_at(input, 4)),
+        Op::ChunkCount => Outcome::of(split(List::read(input)).map(|chunks| vec![chunks.len() as u64])),
+        Op::SplitChunk => split_chunk(List::read(from(input, 4)), u16_at(input, 2), out),
+        Op::WholeEncode => whole_encode(Whole::read(input), out),
     }
 }
 
@@ -219,4 +230,76 @@ fn negotiated_requests(ours: u8, theirs: u8) -> Outcome {
     let on_reply = controller.negotiated_on_reply(Caps { simultaneous_requests: theirs });
     assert_eq!(negotiated, on_reply, "the original's two places, at {ours} and {theirs}");
     granted([negotiated])
+}
+
+/// Request id, header length, count, number, and the property's place and length; header and property are shown as the output.
+fn chunk_decode(data: &[u8]) -> Outcome {
+    match PeChunkRef::decode(data) {
+        Ok(chunk) => {
+            let at = |part: &[u8]| part.as_ptr() as usize - data.as_ptr() as usize;
+            assert_eq!(at(chunk.header), 3, "the header's place in {data:02X?}");
+            let header_len = chunk.header.len() as u64;
+            let mut values = vec![chunk.request_id.into(), header_len, chunk.num_chunks.into(), chunk.chunk_num.into()];
+            values.extend([at(chunk.property) as u64, chunk.property.len() as u64]);
+            Outcome { reply: Ok(values), out: [chunk.header, chunk.property].concat() }
+        }
+        Err(e) => Outcome::of(Err(e.into())),
+    }
+}
+
+fn owned(chunk: Chunk) -> PeChunk {
+    let Chunk { request_id, num_chunks, chunk_num, header, property } = chunk;
+    PeChunk { request_id, header: header.to_vec(), num_chunks, chunk_num, property: property.to_vec() }
+}
+
+fn chunk_encode(chunk: Chunk, mut out: Vec<u8>) -> Outcome {
+    let reply = owned(chunk).encode(&mut out).map(|n| vec![n as u64]).map_err(Refusal::from);
+    Outcome { reply, out }
+}
+
+/// The original's view made its own and written again.
+fn chunk_rewrite(data: &[u8], mut out: Vec<u8>) -> Outcome {
+    let written = PeChunkRef::decode(data).and_then(|chunk| chunk.to_owned().encode(&mut out));
+    Outcome { reply: written.map(|n| vec![n as u64]).map_err(Refusal::from), out }
+}
+
+/// No case has a length from 2^64 - 9 on: there the original's sum overflows.
+fn first_capacity(max_sysex: u32, header_len: u64) -> Outcome {
+    let capacity = chunker::first_chunk_property_capacity(max_sysex, header_len as usize);
+    Outcome::of(capacity.map(|n| vec![n as u64]).map_err(Refusal::from))
+}
+
+fn split(list: List) -> Result<Vec<Vec<u8>>, Refusal> {
+    chunker::split(list.request_id, list.header, list.body, list.max_sysex).map_err(Refusal::from)
+}
+
+/// The original returns all chunks where the port writes one, so the last two questions are document 01's: "Is k from 1 to the
+/// count? 29. Buffer long enough? 3."
+fn split_chunk(list: List, chunk_num: u16, mut out: Vec<u8>) -> Outcome {
+    let out_of_range = Refusal { number: 29, value: 0 };
+    let reply = split(list).and_then(|chunks| {
+        let place = usize::from(chunk_num).checked_sub(1).ok_or(out_of_range)?;
+        copy_in(chunks.get(place).ok_or(out_of_range)?, &mut out)
+    });
+    Outcome { reply, out }
+}
+
+/// The original has no such function: this is its header's writer and then its chunk's, in document 01's order of questions:
+/// "asking consoles (28), a kind that carries a frame (24), then the frame's questions, with the buffer (3) measured for both".
+fn whole_encode(whole: Whole, mut out: Vec<u8>) -> Outcome {
+    let reply = whole_bytes(whole).and_then(|bytes| copy_in(&bytes, &mut out));
+    Outcome { reply, out }
+}
+
+fn whole_bytes(whole: Whole) -> Result<Vec<u8>, Refusal> {
+    let Whole { sub_id2, source, dest, chunk } = whole;
+    let header = CiHeader { device_id: 0x7F, sub_id2, version: 2, source: Muid::from_u32(source)?, dest: Muid::from_u32(dest)? };
+    if !spec::is_pe_chunked_sub_id(sub_id2) {
+        return Err(CiError::UnsupportedSubId2(sub_id2).into());
+    }
+    let chunk = owned(chunk).to_vec()?;
+    let mut bytes = vec![0; spec::CI_HEADER_LEN];
+    header.encode(&mut bytes)?;
+    bytes.extend(chunk);
+    Ok(bytes)
 }

@@ -1,4 +1,6 @@
 //! Random cases around the boundaries, from a seed.
+mod chunks;
+
 use crate::case::{Case, Fields};
 use crate::op::Op;
 use midici_pe::mcoded7;
@@ -74,6 +76,14 @@ pub fn case(op: Op, rng: &mut Rng) -> Case {
         Op::Mcoded7Encode => mcoded7_bytes(rng),
         Op::FirstRequestId => Vec::new(),
         Op::NegotiatedRequests => rng.bytes(2),
+        Op::ChunkDecode => chunks::damaged(rng),
+        Op::ChunkEncode => chunks::encoded(rng),
+        Op::ChunkRewrite => chunks::rewritten(rng),
+        Op::ClampMaxSysex | Op::PePayloadBudget | Op::LaterCapacity => chunks::limit(rng).to_le_bytes().to_vec(),
+        Op::FirstCapacity => chunks::first_capacity(rng),
+        Op::ChunkCount => chunks::counted(rng),
+        Op::SplitChunk => chunks::split(rng),
+        Op::WholeEncode => chunks::whole(rng),
     };
     Case { op, input }
 }

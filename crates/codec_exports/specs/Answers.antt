@@ -3,40 +3,21 @@
 -- Assumes nothing.
 use Prim.Native.Nat.{ℕ}
 use mathlib.Core.Bool.{true, false}
-use mathlib.Core.List.{List}
 use mathlib.Core.Option.{Option, none, some}
-use Rattle.seven_bit.specs.Reply.{Reply, granted, refused, Outcome}
+use Rattle.seven_bit.specs.Reply.{Reply, granted, refused}
 use Rattle.midici_core.specs.Header.{Header}
 use Rattle.midici_core.specs.Caps.{Caps}
 use Rattle.midici_core.specs.Message.{Message}
 use Rattle.midici_core.specs.Kinds.{KindRow}
-use Rattle.codec_exports.specs.declared.answer.Refusal.{Refusal}
-use Rattle.codec_exports.specs.declared.answer.Answer.{Answer}
+use Rattle.pe_frame.specs.Chunk.{Fields}
 use Rattle.codec_exports.specs.declared.answer.HeaderFields.{HeaderFields}
 use Rattle.codec_exports.specs.declared.answer.HeaderAnswer.{HeaderAnswer}
 use Rattle.codec_exports.specs.declared.answer.CapsFields.{CapsFields}
 use Rattle.codec_exports.specs.declared.answer.CapsAnswer.{CapsAnswer}
 use Rattle.codec_exports.specs.declared.answer.MessageAnswer.{MessageAnswer}
+use Rattle.codec_exports.specs.declared.answer.ChunkAnswer.{ChunkAnswer}
 use Rattle.codec_exports.specs.declared.answer.KindAnswer.{KindAnswer}
 use Rattle.codec_exports.specs.declared.answer.GeneratedAnswer.{GeneratedAnswer}
-
-abbrev pub refusal : ℕ → ℕ → Refusal
-refusal number value = record { number = number; value = value }
-
-abbrev pub answerOf : Reply ℕ → Answer
-answerOf (granted n) = record { refusal = refusal 0 0; number = n }
-answerOf (refused number value) = record { refusal = refusal number value; number = 0 }
-
--- A writer's answer, and what its lent output holds.
-pub record Written : Type 0 where
-  pub answer : Answer
-  pub out : List ℕ
-
-abbrev pub written : Answer → List ℕ → Written
-written answer out = record { answer = answer; out = out }
-
-abbrev pub writtenOf : Outcome → Written
-writtenOf o = written (answerOf (o .answer)) (o .out)
 
 -- A header's fields as the exports take and give them.
 abbrev pub headerIn : HeaderFields → Header
@@ -49,8 +30,8 @@ abbrev pub noHeader : Header
 noHeader = record { device = 0; kind = 0; version = 0; source = 0; dest = 0 }
 
 abbrev pub headerAnswerOf : Reply Header → HeaderAnswer
-headerAnswerOf (granted h) = record { refusal = refusal 0 0; header = headerOut h }
-headerAnswerOf (refused number value) = record { refusal = refusal number value; header = headerOut noHeader }
+headerAnswerOf (granted h) = record { refusal = 0; value = 0; header = headerOut h }
+headerAnswerOf (refused number value) = record { refusal = number; value = value; header = headerOut noHeader }
 
 abbrev pub capsIn : CapsFields → Caps
 capsIn c = record { header = headerIn (c .header); requests = c .«simultaneous_requests»; major = c .«pe_major»; minor = c .«pe_minor» }
@@ -62,12 +43,31 @@ abbrev pub noCaps : Caps
 noCaps = record { header = noHeader; requests = 0; major = 0; minor = 0 }
 
 abbrev pub capsAnswerOf : Reply Caps → CapsAnswer
-capsAnswerOf (granted c) = record { refusal = refusal 0 0; caps = capsOut c }
-capsAnswerOf (refused number value) = record { refusal = refusal number value; caps = capsOut noCaps }
+capsAnswerOf (granted c) = record { refusal = 0; value = 0; caps = capsOut c }
+capsAnswerOf (refused number value) = record { refusal = number; value = value; caps = capsOut noCaps }
 
 abbrev pub messageAnswerOf : Reply Message → MessageAnswer
-messageAnswerOf (granted m) = record { refusal = refusal 0 0; header = headerOut (m .header); «payload_at» = m .payload-at; «payload_len» = m .payload-len }
-messageAnswerOf (refused number value) = record { refusal = refusal number value; header = headerOut noHeader; «payload_at» = 0; «payload_len» = 0 }
+messageAnswerOf (granted m) = record { refusal = 0; value = 0; header = headerOut (m .header); «payload_at» = m .payload-at; «payload_len» = m .payload-len }
+messageAnswerOf (refused number value) = record { refusal = number; value = value; header = headerOut noHeader; «payload_at» = 0; «payload_len» = 0 }
+
+abbrev pub chunkOut : ℕ → ℕ → Fields → ChunkAnswer
+chunkOut number value f = record {
+  refusal = number;
+  value = value;
+  «request_id» = f .request-id;
+  «header_len» = f .header-len;
+  «num_chunks» = f .num-chunks;
+  «chunk_num» = f .chunk-num;
+  «property_at» = f .property-at;
+  «property_len» = f .property-len;
+}
+
+abbrev pub noFields : Fields
+noFields = record { request-id = 0; header-len = 0; num-chunks = 0; chunk-num = 0; property-at = 0; property-len = 0 }
+
+abbrev pub chunkAnswerOf : Reply Fields → ChunkAnswer
+chunkAnswerOf (granted f) = chunkOut 0 0 f
+chunkAnswerOf (refused number value) = chunkOut number value noFields
 
 -- A kind's row; all 0 where it is none of the nine.
 abbrev pub kindAnswerOf : Option KindRow → KindAnswer

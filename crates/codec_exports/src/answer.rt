@@ -1,5 +1,9 @@
 // What the exports answer, as structs of numbers. With a refusal every other field is 0; else the refusal's number and value
 // are 0.
+use hub::answer::Answer;
+use hub::answer::counted;
+use hub::answer::pe_refused;
+use hub::answer::turned_down;
 use midici_core::error::CiError;
 use midici_core::header::CiHeader;
 use midici_core::header::Encoded as CiEncoded;
@@ -10,8 +14,8 @@ use midici_core::muid::MuidRead;
 use midici_core::pe_caps::CapsRead;
 use midici_core::pe_msg::MessageRead;
 use midici_core::spec::KindFound;
-use pe_wire::error::PeError;
-use pe_wire::wire::Encoded as PeEncoded;
+use pe_chunker::Capacity;
+use pe_frame::frame::ChunkRead;
 use pe_wire::wire::U14;
 ghost use mathlib.Core.Path.{_≡_};
 ghost use Rattle.midici_core.specs.Caps.{capsTold};
@@ -20,22 +24,12 @@ ghost use Rattle.midici_core.specs.Header.{headerOf, headerTold, encodedTold as
 ghost use Rattle.midici_core.specs.Kinds.{kindTold};
 ghost use Rattle.midici_core.specs.Message.{messageTold};
 ghost use Rattle.midici_core.specs.Muid.{muidTold, generatedTold};
-ghost use Rattle.pe_wire.specs.Errors.{peNumber, peValue};
-ghost use Rattle.pe_wire.specs.Wire.{u14Told, encodedTold as peEncodedTold};
-ghost use Rattle.codec_exports.specs.Answers.{refusal, answerOf, headerIn, headerOut, headerAnswerOf, capsAnswerOf, messageAnswerOf, kindAnswerOf, generatedAnswerOf};
-
-#[repr(C)]
-pub struct Refusal {
-    pub number: u8,
-    pub value: u8,
-}
-
-// A number, also of bytes written.
-#[repr(C)]
-pub struct Answer {
-    pub refusal: Refusal,
-    pub number: u64,
-}
+ghost use Rattle.seven_bit.specs.Reply.{refused};
+ghost use Rattle.pe_wire.specs.Wire.{u14Told};
+ghost use Rattle.pe_frame.specs.Chunk.{chunkTold};
+ghost use Rattle.pe_chunker.specs.Cut.{capacityTold};
+ghost use Rattle.hub.specs.Answers.{answerOf};
+ghost use Rattle.codec_exports.specs.Answers.{headerIn, headerOut, headerAnswerOf, capsAnswerOf, messageAnswerOf, chunkAnswerOf, kindAnswerOf, generatedAnswerOf};
 
 #[repr(C)]
 pub struct HeaderFields {
@@ -48,7 +42,8 @@ pub struct HeaderFields {
 
 #[repr(C)]
 pub struct HeaderAnswer {
-    pub refusal: Refusal,
+    pub refusal: u8,
+    pub value: u8,
     pub header: HeaderFields,
 }
 
@@ -62,16 +57,30 @@ pub struct CapsFields {
 
 #[repr(C)]
 pub struct CapsAnswer {
-    pub refusal: Refusal,
+    pub refusal: u8,
+    pub value: u8,
     pub caps: CapsFields,
 }
 
 #[repr(C)]
 pub struct MessageAnswer {
-    pub refusal: Refusal,
+    pub refusal: u8,
+    pub value: u8,
     pub header: HeaderFields,
     pub payload_at: u64,
     pub payload_len: u64,
+}
+
+#[repr(C)]
+pub struct ChunkAnswer {
+    pub refusal: u8,
+    pub value: u8,
+    pub request_id: u8,
+    pub header_len: u64,
+    pub num_chunks: u16,
+    pub chunk_num: u16,
+    pub property_at: u64,
+    pub property_len: u64,
 }
 
 // A kind's row; all 0 where it is none of the nine.
@@ -95,11 +104,6 @@ pub struct AllocatedAnswer {
     pub next: u8,
 }
 
-const NO_REFUSAL: Refusal = Refusal {
-    number: 0,
-    value: 0,
-};
-
 const NO_HEADER: HeaderFields = HeaderFields {
     device_id: 0,
     sub_id2: 0,
@@ -115,54 +119,18 @@ const NO_CAPS: CapsFields = CapsFields {
     pe_minor: 0,
 };
 
-fn pe_refusal(e: PeError) -> Refusal
-    ensures { λ r. ⌜ r ≡ refusal (peNumber e) (peValue e) ⌝ }
+fn ci_refused(e: CiError) -> Answer
+    ensures { λ r. ⌜ r ≡ answerOf (refused (ciNumber e) (ciValue e)) ⌝ }
 {
-    Refusal {
-        number: e.number(),
-        value: e.value(),
-    }
-}
-
-fn ci_refusal(e: CiError) -> Refusal
-    ensures { λ r. ⌜ r ≡ refusal (ciNumber e) (ciValue e) ⌝ }
-{
-    Refusal {
-        number: e.number(),
-        value: e.value(),
-    }
-}
-
-fn granted(number: u64) -> Answer
-    ensures { λ r. ⌜ r ≡ record { refusal = refusal 0 0; number = number } ⌝ }
-{
-    Answer {
-        refusal: NO_REFUSAL,
-        number,
-    }
-}
-
-fn refused(refusal: Refusal) -> Answer
-    ensures { λ r. ⌜ r ≡ record { refusal = refusal; number = 0 } ⌝ }
-{
-    Answer { refusal, number: 0 }
+    turned_down(e.number(), e.value())
 }
 
 pub(crate) fn u14_read(a: U14) -> Answer
     ensures { λ r. ⌜ r ≡ answerOf (u14Told a) ⌝ }
 {
     match a {
-        U14::Value(v) => granted(v as u64),
-        U14::Refused(e) => refused(pe_refusal(e)),
-    }
-}
-
-pub(crate) fn pe_encoded(a: PeEncoded) -> Answer
-    ensures { λ r. ⌜ r ≡ answerOf (peEncodedTold a) ⌝ }
-{
-    match a {
-        PeEncoded::Wrote(n) => granted(n as u64),
-        PeEncoded::Refused(e) => refused(pe_refusal(e)),
+        U14::Value(v) => counted(v as u64),
+        U14::Refused(e) => pe_refused(e),
     }
 }
 
@@ -170,8 +138,8 @@ pub(crate) fn ci_encoded(a: CiEncoded) -> Answer
     ensures { λ r. ⌜ r ≡ answerOf (ciEncodedTold a) ⌝ }
 {
     match a {
-        CiEncoded::Wrote(n) => granted(n as u64),
-        CiEncoded::Refused(e) => refused(ci_refusal(e)),
+        CiEncoded::Wrote(n) => counted(n as u64),
+        CiEncoded::Refused(e) => ci_refused(e),
     }
 }
 
@@ -179,8 +147,8 @@ pub(crate) fn muid_read(a: MuidRead) -> Answer
     ensures { λ r. ⌜ r ≡ answerOf (muidTold a) ⌝ }
 {
     match a {
-        MuidRead::Value(m) => granted(m.0 as u64),
-        MuidRead::Refused(e) => refused(ci_refusal(e)),
+        MuidRead::Value(m) => counted(m.0 as u64),
+        MuidRead::Refused(e) => ci_refused(e),
     }
 }
 
@@ -247,11 +215,13 @@ pub(crate) fn header_read(a: HeaderRead) -> HeaderAnswer
 {
     match a {
         HeaderRead::Value(h) => HeaderAnswer {
-            refusal: NO_REFUSAL,
+            refusal: 0,
+            value: 0,
             header: header_out(h),
         },
         HeaderRead::Refused(e) => HeaderAnswer {
-            refusal: ci_refusal(e),
+            refusal: e.number(),
+            value: e.value(),
             header: NO_HEADER,
         },
     }
@@ -262,7 +232,8 @@ pub(crate) fn caps_read(a: CapsRead) -> CapsAnswer
 {
     match a {
         CapsRead::Value(c) => CapsAnswer {
-            refusal: NO_REFUSAL,
+            refusal: 0,
+            value: 0,
             caps: CapsFields {
                 header: header_out(c.header),
                 simultaneous_requests: c.simultaneous_requests,
@@ -271,7 +242,8 @@ pub(crate) fn caps_read(a: CapsRead) -> CapsAnswer
             },
         },
         CapsRead::Refused(e) => CapsAnswer {
-            refusal: ci_refusal(e),
+            refusal: e.number(),
+            value: e.value(),
             caps: NO_CAPS,
         },
     }
@@ -282,16 +254,54 @@ pub(crate) fn message_read(a: MessageRead) -> MessageAnswer
 {
     match a {
         MessageRead::Value(m) => MessageAnswer {
-            refusal: NO_REFUSAL,
+            refusal: 0,
+            value: 0,
             header: header_out(m.header),
             payload_at: m.payload_at as u64,
             payload_len: m.payload_len as u64,
         },
         MessageRead::Refused(e) => MessageAnswer {
-            refusal: ci_refusal(e),
+            refusal: e.number(),
+            value: e.value(),
             header: NO_HEADER,
             payload_at: 0,
             payload_len: 0,
         },
+    }
+}
+
+pub(crate) fn chunk_read(a: ChunkRead) -> ChunkAnswer
+    ensures { λ r. ⌜ r ≡ chunkAnswerOf (chunkTold a) ⌝ }
+{
+    match a {
+        ChunkRead::Value(f) => ChunkAnswer {
+            refusal: 0,
+            value: 0,
+            request_id: f.request_id,
+            header_len: f.header_len as u64,
+            num_chunks: f.num_chunks,
+            chunk_num: f.chunk_num,
+            property_at: f.property_at as u64,
+            property_len: f.property_len as u64,
+        },
+        ChunkRead::Refused(e) => ChunkAnswer {
+            refusal: e.number(),
+            value: e.value(),
+            request_id: 0,
+            header_len: 0,
+            num_chunks: 0,
+            chunk_num: 0,
+            property_at: 0,
+            property_len: 0,
+        },
+    }
+}
+
+pub(crate) fn capacity(a: Capacity) -> Answer
+    ensures { λ r. ⌜ r ≡ answerOf (capacityTold a) ⌝ }
+{
+    match a {
+        Capacity::Bytes(n) => counted(n as u64),
+        Capacity::Refused(e) => pe_refused(e),
     }
 }

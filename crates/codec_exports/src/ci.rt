@@ -1,5 +1,4 @@
 // The exports of midici_core.
-use crate::answer::Answer;
 use crate::answer::CapsAnswer;
 use crate::answer::CapsFields;
 use crate::answer::GeneratedAnswer;
@@ -15,6 +14,7 @@ use crate::answer::header_read;
 use crate::answer::kind_found;
 use crate::answer::message_read;
 use crate::answer::muid_read;
+use hub::answer::Answer;
 use midici_core::header::CiHeader;
 use midici_core::muid::Muid;
 use midici_core::pe_caps::PeCapabilities;
@@ -27,7 +27,8 @@ ghost use Rattle.midici_core.specs.Header.{readHeader, writeHeader};
 ghost use Rattle.midici_core.specs.Kinds.{carriesChunk, kindOf};
 ghost use Rattle.midici_core.specs.Message.{readMessage, writeMessage};
 ghost use Rattle.midici_core.specs.Muid.{muidFrom, ordinaryMuid, isBroadcast, isReserved, readMuid, muidBytes, firstOrdinary};
-ghost use Rattle.codec_exports.specs.Answers.{answerOf, written, writtenOf, headerIn, headerAnswerOf, capsIn, capsAnswerOf, messageAnswerOf, kindAnswerOf, generatedAnswerOf};
+ghost use Rattle.hub.specs.Answers.{answerOf, written, writtenOf};
+ghost use Rattle.codec_exports.specs.Answers.{headerIn, headerAnswerOf, capsIn, capsAnswerOf, messageAnswerOf, kindAnswerOf, generatedAnswerOf};
 
 #[no_mangle]
 pub extern "C" fn codec_muid_from_u32(value: u32) -> Answer

@@ -1,16 +1,23 @@
-// The exports of pe_wire, pe_mcoded7 and pe_controller.
+// The exports of pe_wire, pe_mcoded7, pe_frame, pe_chunker and pe_controller; those that hub has are not among them.
 use crate::answer::AllocatedAnswer;
-use crate::answer::Answer;
-use crate::answer::pe_encoded;
+use crate::answer::ChunkAnswer;
+use crate::answer::capacity;
+use crate::answer::chunk_read;
 use crate::answer::u14_read;
+use hub::answer::Answer;
+use hub::answer::pe_encoded;
 use pe_controller::RequestCounter;
 ghost use mathlib.Core.Path.{_≡_};
 ghost use lib.ListN.{length};
-ghost use Rattle.seven_bit.specs.Reply.{writing};
+ghost use Rattle.seven_bit.specs.Reply.{andThen, writing};
 ghost use Rattle.pe_wire.specs.Wire.{readU14, writeU14};
 ghost use Rattle.pe_mcoded7.specs.Mcoded7.{readMcoded7, writeMcoded7};
 ghost use Rattle.pe_controller.specs.Controller.{stepped, negotiated};
-ghost use Rattle.codec_exports.specs.Answers.{answerOf, written, writtenOf};
+ghost use Rattle.pe_frame.specs.Chunk.{readFields, chunkOf};
+ghost use Rattle.pe_frame.specs.Write.{writeChunk};
+ghost use Rattle.pe_chunker.specs.Cut.{clamped, budget, askFirst, laterCapacity};
+ghost use Rattle.hub.specs.Answers.{answerOf, written, writtenOf};
+ghost use Rattle.codec_exports.specs.Answers.{chunkAnswerOf};
 
 #[no_mangle]
 pub extern "C" fn codec_read_u14_le7(bytes: &[u8]) -> Answer
@@ -67,4 +74,60 @@ pub extern "C" fn codec_negotiated_requests(ours: u8, theirs: u8) -> u8
     ensures { λ r. ⌜ r ≡ negotiated ours theirs ⌝ }
 {
     pe_controller::negotiated_requests(ours, theirs)
+}
+
+#[no_mangle]
+pub extern "C" fn codec_decode_fields(bytes: &[u8]) -> ChunkAnswer
+    ensures { λ r. ⌜ r ≡ chunkAnswerOf (readFields (now (bytes .entry))) ⌝ }
+{
+    chunk_read(pe_frame::frame::decode_fields(bytes))
+}
+
+#[no_mangle]
+pub extern "C" fn codec_encode_chunk(
+    request_id: u8,
+    header: &[u8],
+    num_chunks: u16,
+    chunk_num: u16,
+    property: &[u8],
+    out: &mut [u8],
+) -> Answer
+    ensures { λ r. ⌜ written r (now (out .exit)) ≡ writtenOf (writing (writeChunk (record { request-id = «request_id»; header = now (header .entry); num-chunks = «num_chunks»; chunk-num = «chunk_num»; property = now (property .entry) }) (length (now (out .entry)))) (now (out .entry))) ⌝ }
+{
+    pe_encoded(pe_frame::frame::encode(request_id, header, num_chunks, chunk_num, property, out))
+}
+
+#[no_mangle]
+pub extern "C" fn codec_rewrite(bytes: &[u8], out: &mut [u8]) -> Answer
+    ensures { λ r. ⌜ written r (now (out .exit)) ≡ writtenOf (writing (andThen (readFields (now (bytes .entry))) (λ f. writeChunk (chunkOf (now (bytes .entry)) f) (length (now (out .entry))))) (now (out .entry))) ⌝ }
+{
+    pe_encoded(pe_frame::chunk_ref::rewrite(bytes, out))
+}
+
+#[no_mangle]
+pub extern "C" fn codec_clamp_max_sysex(negotiated: u32) -> u32
+    ensures { λ r. ⌜ r ≡ clamped negotiated ⌝ }
+{
+    pe_chunker::clamp_max_sysex(negotiated)
+}
+
+#[no_mangle]
+pub extern "C" fn codec_pe_payload_budget(max_sysex: u32) -> u64
+    ensures { λ r. ⌜ r ≡ budget «max_sysex» ⌝ }
+{
+    pe_chunker::pe_payload_budget(max_sysex) as u64
+}
+
+#[no_mangle]
+pub extern "C" fn codec_first_chunk_property_capacity(max_sysex: u32, header_len: usize) -> Answer
+    ensures { λ r. ⌜ r ≡ answerOf (askFirst «max_sysex» «header_len») ⌝ }
+{
+    capacity(pe_chunker::first_chunk_property_capacity(max_sysex, header_len))
+}
+
+#[no_mangle]
+pub extern "C" fn codec_later_chunk_property_capacity(max_sysex: u32) -> u64
+    ensures { λ r. ⌜ r ≡ laterCapacity «max_sysex» ⌝ }
+{
+    pe_chunker::later_chunk_property_capacity(max_sysex) as u64
 }

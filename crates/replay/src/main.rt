@@ -1,10 +1,9 @@
 // Plays a fixed list of the original's answers: records of a function's byte, the length of its input in two bytes, low one
 // first, and the input. For each it prints the port's answer on a line: the values, or r with the refusal's number and value;
 // then each byte of the lent output, behind a colon. oracle/src/op.rs says how an input reads; `make vectors` writes the list.
-use codec_exports::answer::Answer;
 use codec_exports::answer::CapsFields;
 use codec_exports::answer::HeaderFields;
-use codec_exports::answer::Refusal;
+use hub::answer::Answer;
 use libc::STDOUT_FILENO;
 ghost use Prim.Native.Nat.{_<_, _≤_};
 ghost use lib.ListN.{length};
@@ -53,6 +52,26 @@ const ALLOC_OUT_REQUEST_ID: u8 = 21;
 
 const NEGOTIATED_REQUESTS: u8 = 22;
 
+const CHUNK_DECODE: u8 = 23;
+
+const CHUNK_ENCODE: u8 = 24;
+
+const CHUNK_REWRITE: u8 = 25;
+
+const CLAMP_MAX_SYSEX: u8 = 26;
+
+const PE_PAYLOAD_BUDGET: u8 = 27;
+
+const LATER_CAPACITY: u8 = 28;
+
+const FIRST_CAPACITY: u8 = 29;
+
+const CHUNK_COUNT: u8 = 30;
+
+const SPLIT_CHUNK: u8 = 31;
+
+const WHOLE_ENCODE: u8 = 32;
+
 // Bytes past the end are 0.
 fn u8_at(s: &[u8], at: usize) -> u8 {
     if at < s.len() { s[at] } else { 0 }
@@ -74,6 +93,23 @@ fn from(s: &[u8], at: usize) -> &[u8] {
     if at <= s.len() { &s[at..] } else { &s[..0] }
 }
 
+fn first(s: &[u8], n: usize) -> &[u8] {
+    if n <= s.len() { &s[0..n] } else { &s[0..] }
+}
+
+// The header whose length stands at `at`, and what follows it.
+fn header_at(s: &[u8], at: usize) -> &[u8]
+    requires { ⌜ at ≤ 64 ⌝ }
+{
+    first(from(s, at + 2), u16_at(s, at) as usize)
+}
+
+fn behind_header(s: &[u8], at: usize) -> &[u8]
+    requires { ⌜ at ≤ 64 ⌝ }
+{
+    from(from(s, at + 2), u16_at(s, at) as usize)
+}
+
 fn print_value(n: u64) {
     io::print_decimal(STDOUT_FILENO, n);
     io::write_all(STDOUT_FILENO, b" ");
@@ -87,10 +123,10 @@ fn print_flag(yes: bool) {
     print_value(if yes { 1 } else { 0 });
 }
 
-fn print_refusal(r: Refusal) {
+fn print_refusal(refusal: u8, value: u8) {
     io::write_all(STDOUT_FILENO, b"r ");
-    print_byte(r.number);
-    print_byte(r.value);
+    print_byte(refusal);
+    print_byte(value);
 }
 
 fn print_behind_space(b: u8) {
@@ -98,22 +134,31 @@ fn print_behind_space(b: u8) {
     io::print_decimal(STDOUT_FILENO, b as u64);
 }
 
-// The output, and the line's end.
-fn print_out(out: &[u8]) {
-    io::write_all(STDOUT_FILENO, b":");
+fn print_bytes(bytes: &[u8]) {
     let mut i = 0;
-    while i < out.len() {
-        print_behind_space(out[i]);
+    while i < bytes.len() {
+        print_behind_space(bytes[i]);
         i += 1;
     }
+}
+
+// The output, in two parts, and the line's end.
+fn print_parts(one: &[u8], other: &[u8]) {
+    io::write_all(STDOUT_FILENO, b":");
+    print_bytes(one);
+    print_bytes(other);
     io::write_all(STDOUT_FILENO, b"\n");
 }
 
+fn print_out(out: &[u8]) {
+    print_parts(out, b"");
+}
+
 fn print_answer(a: Answer) {
-    if a.refusal.number == 0 {
-        print_value(a.number);
+    if a.refusal == 0 {
+        print_value(a.count);
     } else {
-        print_refusal(a.refusal);
+        print_refusal(a.refusal, a.value);
     }
 }
 
@@ -145,6 +190,42 @@ fn caps_in(s: &[u8]) -> CapsFields {
     }
 }
 
+fn chunk_encode(s: &[u8], out: &mut [u8]) -> Answer {
+    codec_exports::pe::codec_encode_chunk(
+        u8_at(s, 0),
+        header_at(s, 5),
+        u16_at(s, 1),
+        u16_at(s, 3),
+        behind_header(s, 5),
+        out,
+    )
+}
+
+fn split_chunk(chunk_num: u16, s: &[u8], out: &mut [u8]) -> Answer {
+    hub::chunks::midici_pe_split_chunk(
+        u8_at(s, 0),
+        header_at(s, 5),
+        behind_header(s, 5),
+        u32_at(s, 1),
+        chunk_num,
+        out,
+    )
+}
+
+fn whole_encode(kind: u8, source: u32, dest: u32, s: &[u8], out: &mut [u8]) -> Answer {
+    hub::chunks::midici_pe_encode_message(
+        kind,
+        source,
+        dest,
+        u8_at(s, 0),
+        header_at(s, 5),
+        u16_at(s, 1),
+        u16_at(s, 3),
+        behind_header(s, 5),
+        out,
+    )
+}
+
 // The functions that write into a lent output.
 fn write(op: u8, s: &[u8], out: &mut [u8]) -> Answer {
     match op {
@@ -153,7 +234,11 @@ fn write(op: u8, s: &[u8], out: &mut [u8]) -> Answer {
         CAPS_ENCODE => codec_exports::ci::codec_caps_encode(caps_in(s), out),
         MESSAGE_ENCODE => codec_exports::ci::codec_message_encode(header_in(s), from(s, 13), out),
         MCODED7_DECODE => codec_exports::pe::codec_mcoded7_decode(from(s, 2), out),
-        _ => codec_exports::pe::codec_mcoded7_encode(from(s, 2), out),
+        MCODED7_ENCODE => codec_exports::pe::codec_mcoded7_encode(from(s, 2), out),
+        CHUNK_REWRITE => codec_exports::pe::codec_rewrite(from(s, 2), out),
+        CHUNK_ENCODE => chunk_encode(from(s, 2), out),
+        SPLIT_CHUNK => split_chunk(u16_at(s, 2), from(s, 4), out),
+        _ => whole_encode(u8_at(s, 2), u32_at(s, 3), u32_at(s, 7), from(s, 11), out),
     }
 }
 
@@ -205,10 +290,10 @@ fn muid_generate(s: &[u8]) {
 
 fn header_decode(s: &[u8]) {
     let answer = codec_exports::ci::codec_header_decode(s);
-    if answer.refusal.number == 0 {
+    if answer.refusal == 0 {
         print_header(answer.header);
     } else {
-        print_refusal(answer.refusal);
+        print_refusal(answer.refusal, answer.value);
     }
 }
 
@@ -223,21 +308,21 @@ fn kind_of(s: &[u8]) {
 fn caps_decode(s: &[u8]) {
     let answer = codec_exports::ci::codec_caps_decode(s);
     let caps = answer.caps;
-    if answer.refusal.number == 0 {
+    if answer.refusal == 0 {
         print_header(caps.header);
         print_byte(caps.simultaneous_requests);
         print_byte(caps.pe_major);
         print_byte(caps.pe_minor);
     } else {
-        print_refusal(answer.refusal);
+        print_refusal(answer.refusal, answer.value);
     }
 }
 
 // The payload is shown as the output.
 fn play_message(s: &[u8]) {
     let answer = codec_exports::ci::codec_message_decode(s);
-    if answer.refusal.number != 0 {
-        print_refusal(answer.refusal);
+    if answer.refusal != 0 {
+        print_refusal(answer.refusal, answer.value);
         print_out(b"");
         return;
     }
@@ -249,13 +334,48 @@ fn play_message(s: &[u8]) {
     }
 }
 
+// Header and property are shown as the output.
+fn play_chunk(s: &[u8]) {
+    let answer = codec_exports::pe::codec_decode_fields(s);
+    if answer.refusal != 0 {
+        print_refusal(answer.refusal, answer.value);
+        print_out(b"");
+        return;
+    }
+    print_byte(answer.request_id);
+    print_value(answer.header_len);
+    print_value(answer.num_chunks as u64);
+    print_value(answer.chunk_num as u64);
+    print_value(answer.property_at);
+    print_value(answer.property_len);
+    let property = from(s, answer.property_at as usize);
+    print_parts(
+        first(from(s, 3), answer.header_len as usize),
+        first(property, answer.property_len as usize),
+    );
+}
+
+fn first_capacity(s: &[u8]) -> Answer {
+    let header_len = u32_at(s, 4) as u64 + 4_294_967_296 * (u32_at(s, 8) as u64);
+    codec_exports::pe::codec_first_chunk_property_capacity(u32_at(s, 0), header_len as usize)
+}
+
+fn chunk_count(s: &[u8]) -> Answer {
+    hub::chunks::midici_pe_chunk_count(
+        u8_at(s, 0),
+        header_at(s, 5),
+        behind_header(s, 5),
+        u32_at(s, 1),
+    )
+}
+
 fn alloc_out_request_id(s: &[u8]) {
     let answer = codec_exports::pe::codec_alloc_out_request_id(u8_at(s, 0));
     print_byte(answer.request_id);
     print_byte(answer.next);
 }
 
-// The functions that write nothing, but for the message.
+// The functions that write nothing, but for the message and the chunk.
 fn play_reader(op: u8, s: &[u8]) {
     match op {
         READ_U14_LE7 => print_answer(codec_exports::pe::codec_read_u14_le7(s)),
@@ -279,6 +399,17 @@ fn play_reader(op: u8, s: &[u8]) {
             u8_at(s, 0),
             u8_at(s, 1),
         )),
+        CLAMP_MAX_SYSEX => {
+            print_value(codec_exports::pe::codec_clamp_max_sysex(u32_at(s, 0)) as u64)
+        }
+        PE_PAYLOAD_BUDGET => {
+            print_value(codec_exports::pe::codec_pe_payload_budget(u32_at(s, 0)))
+        }
+        LATER_CAPACITY => {
+            print_value(codec_exports::pe::codec_later_chunk_property_capacity(u32_at(s, 0)))
+        }
+        FIRST_CAPACITY => print_answer(first_capacity(s)),
+        CHUNK_COUNT => print_answer(chunk_count(s)),
         _ => print_flag(false),
     }
     print_out(b"");
@@ -291,8 +422,13 @@ fn play(op: u8, s: &[u8]) {
         | CAPS_ENCODE
         | MESSAGE_ENCODE
         | MCODED7_DECODE
-        | MCODED7_ENCODE => play_writer(op, s),
+        | MCODED7_ENCODE
+        | CHUNK_ENCODE
+        | CHUNK_REWRITE
+        | SPLIT_CHUNK
+        | WHOLE_ENCODE => play_writer(op, s),
         MESSAGE_DECODE => play_message(s),
+        CHUNK_DECODE => play_chunk(s),
         _ => play_reader(op, s),
     }
 }

@@ -2,9 +2,13 @@
 #![no_std]
 extern crate alloc;
 
+#[path = "../../../../target/oracle/crates/midici-pe/src/chunker.rs"]
+pub mod chunker;
 pub mod controller;
 #[path = "../../../../target/oracle/crates/midici-pe/src/error.rs"]
 pub mod error;
+#[path = "../../../../target/oracle/crates/midici-pe/src/frame.rs"]
+pub mod frame;
 #[path = "../../../../target/oracle/crates/midici-pe/src/mcoded7.rs"]
 pub mod mcoded7;
 #[path = "../../../../target/oracle/crates/midici-pe/src/wire.rs"]

@@ -1,5 +1,6 @@
 //! Compares the port with the original: `compare SEED CASES`. All inputs of a function where they are few; else all that are
 //! short or at the boundaries, and then CASES random ones. It stops at the first difference.
+mod ffi;
 mod port;
 
 use oracle::case::Case;

@@ -1,110 +1,8 @@
-//! The port's answers, through the exports of crates/codec_exports.
-use oracle::case::{from, u16_at, u32_at, u8_at, words, Case, Fields};
+//! The port's answers, through the exports of crates/hub and crates/codec_exports.
+use crate::ffi;
+use oracle::case::{from, u16_at, u32_at, u64_at, u8_at, words, Case, Chunk, Fields, List, Whole};
 use oracle::op::Op;
 use oracle::outcome::{Outcome, Refusal, Reply};
-
-/// The structs and the functions as crates/codec_exports declares them.
-mod ffi {
-    #[repr(C)]
-    pub struct Refusal {
-        pub number: u8,
-        pub value: u8,
-    }
-
-    #[repr(C)]
-    pub struct Answer {
-        pub refusal: Refusal,
-        pub number: u64,
-    }
-
-    #[repr(C)]
-    pub struct HeaderFields {
-        pub device_id: u8,
-        pub sub_id2: u8,
-        pub version: u8,
-        pub source: u32,
-        pub dest: u32,
-    }
-
-    #[repr(C)]
-    pub struct HeaderAnswer {
-        pub refusal: Refusal,
-        pub header: HeaderFields,
-    }
-
-    #[repr(C)]
-    pub struct CapsFields {
-        pub header: HeaderFields,
-        pub simultaneous_requests: u8,
-        pub pe_major: u8,
-        pub pe_minor: u8,
-    }
-
-    #[repr(C)]
-    pub struct CapsAnswer {
-        pub refusal: Refusal,
-        pub caps: CapsFields,
-    }
-
-    #[repr(C)]
-    pub struct MessageAnswer {
-        pub refusal: Refusal,
-        pub header: HeaderFields,
-        pub payload_at: u64,
-        pub payload_len: u64,
-    }
-
-    #[repr(C)]
-    pub struct KindAnswer {
-        pub known: bool,
-        pub sub_id2: u8,
-        pub chunked: bool,
-        pub reply: u8,
-    }
-
-    #[repr(C)]
-    pub struct GeneratedAnswer {
-        pub found: bool,
-        pub number: u32,
-    }
-
-    #[repr(C)]
-    pub struct AllocatedAnswer {
-        pub request_id: u8,
-        pub next: u8,
-    }
-
-    extern "C" {
-        pub fn codec_read_u14_le7(bytes: *const u8, bytes_len: usize) -> Answer;
-        pub fn codec_write_u14_le7(v: u16, out: *mut u8, out_len: usize) -> Answer;
-        pub fn codec_muid_from_u32(value: u32) -> Answer;
-        pub fn codec_muid_ordinary(value: u32) -> Answer;
-        pub fn codec_muid_is_broadcast(value: u32) -> bool;
-        pub fn codec_muid_is_reserved(value: u32) -> bool;
-        pub fn codec_muid_encode_7bit_le(value: u32, out: *mut [u8; 4]);
-        pub fn codec_muid_decode_7bit_le(bytes: *const [u8; 4]) -> Answer;
-        pub fn codec_muid_generate(words: *const u32, words_len: usize) -> GeneratedAnswer;
-        pub fn codec_header_decode(body: *const u8, body_len: usize) -> HeaderAnswer;
-        pub fn codec_header_encode(header: HeaderFields, out: *mut u8, out_len: usize) -> Answer;
-        pub fn codec_is_pe_chunked_sub_id(sub_id2: u8) -> bool;
-        pub fn codec_kind_of(sub_id2: u8) -> KindAnswer;
-        pub fn codec_caps_decode(body: *const u8, body_len: usize) -> CapsAnswer;
-        pub fn codec_caps_encode(caps: CapsFields, out: *mut u8, out_len: usize) -> Answer;
-        pub fn codec_message_decode(body: *const u8, body_len: usize) -> MessageAnswer;
-        pub fn codec_message_encode(
-            header: HeaderFields,
-            payload: *const u8,
-            payload_len: usize,
-            out: *mut u8,
-            out_len: usize,
-        ) -> Answer;
-        pub fn codec_mcoded7_decode(input: *const u8, input_len: usize, out: *mut u8, out_len: usize) -> Answer;
-        pub fn codec_mcoded7_encode(input: *const u8, input_len: usize, out: *mut u8, out_len: usize) -> Answer;
-        pub fn codec_first_request_id() -> u8;
-        pub fn codec_alloc_out_request_id(counter: u8) -> AllocatedAnswer;
-        pub fn codec_negotiated_requests(ours: u8, theirs: u8) -> u8;
-    }
-}
 
 /// The port's answer to a case, with the output that is lent.
 pub fn answer(case: &Case, mut out: Vec<u8>) -> Outcome {
@@ -132,14 +30,23 @@ pub fn answer(case: &Case, mut out: Vec<u8>) -> Outcome {
         Op::FirstRequestId => Ok(vec![unsafe { ffi::codec_first_request_id() }.into()]),
         Op::AllocOutRequestId => Ok(alloc_out_request_id(u8_at(input, 0))),
         Op::NegotiatedRequests => Ok(vec![unsafe { ffi::codec_negotiated_requests(u8_at(input, 0), u8_at(input, 1)) }.into()]),
+        Op::ChunkDecode => return chunk_decode(input),
+        Op::ChunkEncode => chunk_encode(Chunk::read(from(input, 2)), &mut out),
+        Op::ChunkRewrite => copying(ffi::codec_rewrite, from(input, 2), &mut out),
+        Op::ClampMaxSysex => Ok(vec![unsafe { ffi::codec_clamp_max_sysex(u32_at(input, 0)) }.into()]),
+        Op::PePayloadBudget => Ok(vec![unsafe { ffi::codec_pe_payload_budget(u32_at(input, 0)) }]),
+        Op::LaterCapacity => Ok(vec![unsafe { ffi::codec_later_chunk_property_capacity(u32_at(input, 0)) }]),
+        Op::FirstCapacity => first_capacity(u32_at(input, 0), u64_at(input, 4)),
+        Op::ChunkCount => chunk_count(List::read(input)),
+        Op::SplitChunk => split_chunk(List::read(from(input, 4)), u16_at(input, 2), &mut out),
+        Op::WholeEncode => whole_encode(Whole::read(input), &mut out),
     };
     Outcome { reply, out }
 }
 
 /// The refusal, or the values where there is none. An answer with both, which the port never gives, shows its values, and so
 /// differs from every refusal of the original.
-fn reply(refusal: ffi::Refusal, values: Vec<u64>) -> Reply {
-    let ffi::Refusal { number, value } = refusal;
+fn reply(number: u8, value: u8, values: Vec<u64>) -> Reply {
     let none = number == 0 && value == 0;
     if none || values.iter().any(|v| *v != 0) {
         Ok(values)
@@ -149,7 +56,7 @@ fn reply(refusal: ffi::Refusal, values: Vec<u64>) -> Reply {
 }
 
 fn number(answer: ffi::Answer) -> Reply {
-    reply(answer.refusal, vec![answer.number])
+    reply(answer.refusal, answer.value, vec![answer.count])
 }
 
 type Copying = unsafe extern "C" fn(*const u8, usize, *mut u8, usize) -> ffi::Answer;
@@ -181,7 +88,7 @@ fn header(input: &[u8]) -> ffi::HeaderFields {
 
 fn header_decode(body: &[u8]) -> Reply {
     let answer = unsafe { ffi::codec_header_decode(body.as_ptr(), body.len()) };
-    reply(answer.refusal, fields(answer.header).values())
+    reply(answer.refusal, answer.value, fields(answer.header).values())
 }
 
 fn kind_of(kind: u8) -> Vec<u64> {
@@ -200,18 +107,18 @@ fn caps(input: &[u8]) -> ffi::CapsFields {
 }
 
 fn caps_decode(body: &[u8]) -> Reply {
-    let ffi::CapsAnswer { refusal, caps } = unsafe { ffi::codec_caps_decode(body.as_ptr(), body.len()) };
+    let ffi::CapsAnswer { refusal, value, caps } = unsafe { ffi::codec_caps_decode(body.as_ptr(), body.len()) };
     let mut values = fields(caps.header).values();
     values.extend([caps.simultaneous_requests, caps.pe_major, caps.pe_minor].map(u64::from));
-    reply(refusal, values)
+    reply(refusal, value, values)
 }
 
 /// The payload is shown as the output.
 fn message_decode(body: &[u8]) -> Outcome {
     let answer = unsafe { ffi::codec_message_decode(body.as_ptr(), body.len()) };
     let payload = from(body, answer.payload_at as usize).get(..answer.payload_len as usize);
-    let out = if answer.refusal.number == 0 { payload.expect("a part of the body").to_vec() } else { Vec::new() };
-    Outcome { reply: reply(answer.refusal, fields(answer.header).values()), out }
+    let out = if answer.refusal == 0 { payload.expect("a part of the body").to_vec() } else { Vec::new() };
+    Outcome { reply: reply(answer.refusal, answer.value, fields(answer.header).values()), out }
 }
 
 fn message_encode(input: &[u8], out: &mut [u8]) -> Reply {
@@ -223,4 +130,82 @@ fn message_encode(input: &[u8], out: &mut [u8]) -> Reply {
 fn alloc_out_request_id(counter: u8) -> Vec<u64> {
     let allocated = unsafe { ffi::codec_alloc_out_request_id(counter) };
     vec![allocated.request_id.into(), allocated.next.into()]
+}
+
+/// Header and property are shown as the output.
+fn chunk_decode(data: &[u8]) -> Outcome {
+    let answer = unsafe { ffi::codec_decode_fields(data.as_ptr(), data.len()) };
+    let mut values = vec![answer.request_id.into(), answer.header_len, answer.num_chunks.into(), answer.chunk_num.into()];
+    values.extend([answer.property_at, answer.property_len]);
+    let part = |at: u64, len: u64| from(data, at as usize).get(..len as usize).expect("a part of the chunk");
+    let out = if answer.refusal == 0 {
+        [part(3, answer.header_len), part(answer.property_at, answer.property_len)].concat()
+    } else {
+        Vec::new()
+    };
+    Outcome { reply: reply(answer.refusal, answer.value, values), out }
+}
+
+fn chunk_encode(chunk: Chunk, out: &mut [u8]) -> Reply {
+    let Chunk { request_id, num_chunks, chunk_num, header, property } = chunk;
+    number(unsafe {
+        ffi::codec_encode_chunk(
+            request_id,
+            header.as_ptr(),
+            header.len(),
+            num_chunks,
+            chunk_num,
+            property.as_ptr(),
+            property.len(),
+            out.as_mut_ptr(),
+            out.len(),
+        )
+    })
+}
+
+fn first_capacity(max_sysex: u32, header_len: u64) -> Reply {
+    number(unsafe { ffi::codec_first_chunk_property_capacity(max_sysex, header_len as usize) })
+}
+
+fn chunk_count(list: List) -> Reply {
+    let List { request_id, max_sysex, header, body } = list;
+    number(unsafe { ffi::midici_pe_chunk_count(request_id, header.as_ptr(), header.len(), body.as_ptr(), body.len(), max_sysex) })
+}
+
+fn split_chunk(list: List, chunk_num: u16, out: &mut [u8]) -> Reply {
+    let List { request_id, max_sysex, header, body } = list;
+    number(unsafe {
+        ffi::midici_pe_split_chunk(
+            request_id,
+            header.as_ptr(),
+            header.len(),
+            body.as_ptr(),
+            body.len(),
+            max_sysex,
+            chunk_num,
+            out.as_mut_ptr(),
+            out.len(),
+        )
+    })
+}
+
+fn whole_encode(whole: Whole, out: &mut [u8]) -> Reply {
+    let Whole { sub_id2, source, dest, chunk } = whole;
+    let Chunk { request_id, num_chunks, chunk_num, header, property } = chunk;
+    number(unsafe {
+        ffi::midici_pe_encode_message(
+            sub_id2,
+            source,
+            dest,
+            request_id,
+            header.as_ptr(),
+            header.len(),
+            num_chunks,
+            chunk_num,
+            property.as_ptr(),
+            property.len(),
+            out.as_mut_ptr(),
+            out.len(),
+        )
+    })
 }

@@ -5,34 +5,38 @@ use Rattle.midici_core.specs.declared.pe_caps.CapsRead.{CapsRead}
 use Rattle.midici_core.specs.Caps.{capsTold}
 use Rattle.codec_exports.specs.declared.answer.CapsAnswer.{CapsAnswer}
 use Rattle.codec_exports.specs.Answers.{capsAnswerOf}
-use Rattle.codec_exports.proofs.AnswerLaws.{matched}
+use Rattle.hub.proofs.AnswerLaws.{matched}
 
 abbrev tells : CapsRead → CapsAnswer
 tells a = capsAnswerOf (capsTold a)
 
--- src/answer.rt:264:25
+-- src/answer.rt:234:25
 enum-known-a : tie.Need-enum-known-a
 enum-known-a c = search needs
 
--- src/answer.rt:267:25
+-- src/answer.rt:238:25
 header-out-requires : tie.Need-header-out-requires
 header-out-requires c κs = search needs
 
--- src/answer.rt:273:27
+-- src/answer.rt:244:27
 enum-known-a-2 : tie.Need-enum-known-a-2
 enum-known-a-2 c = search needs
 
--- src/answer.rt:274:22
-ci-refusal-requires : tie.Need-ci-refusal-requires
-ci-refusal-requires c κs = search needs
+-- src/answer.rt:245:22
+number-requires : tie.Need-number-requires
+number-requires c κs = search needs
 
--- src/answer.rt:260:1
+-- src/answer.rt:246:20
+value-requires : tie.Need-value-requires
+value-requires c κs = search needs
+
+-- src/answer.rt:230:1
 returns : tie.Need-returns
 returns c = matched tells (c .before .before .a .given .1) (rw (c .header-out .ensures))
 
--- src/answer.rt:260:1
+-- src/answer.rt:230:1
 returns-2 : tie.Need-returns-2
-returns-2 c = matched tells (c .before .before .a2 .given .1) (rw (c .ci-refusal .ensures))
+returns-2 c = matched tells (c .before .before .before .a2 .given .1) (rw (c .before .number .ensures, c .value .ensures))
 
 pub caps-read-spec : {M : Type 1} → statement M
 caps-read-spec =
@@ -41,6 +45,7 @@ caps-read-spec =
     enum-known-a
     header-out-requires
     enum-known-a-2
-    ci-refusal-requires
+    number-requires
+    value-requires
     returns
     returns-2)

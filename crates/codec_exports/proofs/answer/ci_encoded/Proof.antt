@@ -3,50 +3,38 @@ use Rattle.codec_exports.proofs.answer.ci_encoded.Statement.{statement}
 use Rattle.codec_exports.proofs.answer.ci_encoded.Tie as tie
 use Rattle.midici_core.specs.declared.header.Encoded.{Encoded}
 use Rattle.midici_core.specs.Header.{encodedTold}
-use Rattle.codec_exports.specs.declared.answer.Answer.{Answer}
-use Rattle.codec_exports.specs.Answers.{answerOf}
-use Rattle.codec_exports.proofs.AnswerLaws.{matched}
+use Rattle.hub.specs.declared.answer.Answer.{Answer}
+use Rattle.hub.specs.Answers.{answerOf}
+use Rattle.hub.proofs.AnswerLaws.{matched}
 
 abbrev tells : Encoded → Answer
 tells a = answerOf (encodedTold a)
 
--- src/answer.rt:173:26
+-- src/answer.rt:141:26
 enum-known-a : tie.Need-enum-known-a
 enum-known-a c = search needs
 
--- src/answer.rt:173:32
-granted-requires : tie.Need-granted-requires
-granted-requires c κs = search needs
+-- src/answer.rt:141:32
+counted-requires : tie.Need-counted-requires
+counted-requires c κs = search needs
 
--- src/answer.rt:174:28
+-- src/answer.rt:142:28
 enum-known-a-2 : tie.Need-enum-known-a-2
 enum-known-a-2 c = search needs
 
--- src/answer.rt:174:42
-ci-refusal-requires : tie.Need-ci-refusal-requires
-ci-refusal-requires c κs = search needs
+-- src/answer.rt:142:34
+ci-refused-requires : tie.Need-ci-refused-requires
+ci-refused-requires c κs = search needs
 
--- src/answer.rt:174:34
-refused-requires : tie.Need-refused-requires
-refused-requires c κs = search needs
-
--- src/answer.rt:169:1
+-- src/answer.rt:137:1
 returns : tie.Need-returns
-returns c = matched tells (c .before .before .a .given .1) (c .granted .ensures)
+returns c = matched tells (c .before .before .a .given .1) (c .counted .ensures)
 
--- src/answer.rt:169:1
+-- src/answer.rt:137:1
 returns-2 : tie.Need-returns-2
-returns-2 c =
-    matched tells (c .before .before .before .a2 .given .1) (rw (c .before .ci-refusal .ensures) at (c .refused .ensures))
+returns-2 c = matched tells (c .before .before .a2 .given .1) (c .ci-refused .ensures)
 
 pub ci-encoded-spec : {M : Type 1} → statement M
 ci-encoded-spec =
     tie.close
-    (tie.spec
-    enum-known-a
-    granted-requires
-    enum-known-a-2
-    ci-refusal-requires
-    refused-requires
-    returns
-    returns-2)
+    (tie.spec enum-known-a counted-requires enum-known-a-2 ci-refused-requires returns returns-2)

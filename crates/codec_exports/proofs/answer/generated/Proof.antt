@@ -6,7 +6,7 @@ use Rattle.midici_core.specs.declared.muid.Generated.{Generated}
 use Rattle.midici_core.specs.Muid.{generatedTold}
 use Rattle.codec_exports.specs.declared.answer.GeneratedAnswer.{GeneratedAnswer}
 use Rattle.codec_exports.specs.Answers.{generatedAnswerOf}
-use Rattle.codec_exports.proofs.AnswerLaws.{matched}
+use Rattle.hub.proofs.AnswerLaws.{matched}
 
 abbrev tells : Generated → GeneratedAnswer
 tells a = generatedAnswerOf (generatedTold a)

@@ -5,34 +5,38 @@ use Rattle.midici_core.specs.declared.header.HeaderRead.{HeaderRead}
 use Rattle.midici_core.specs.Header.{headerTold}
 use Rattle.codec_exports.specs.declared.answer.HeaderAnswer.{HeaderAnswer}
 use Rattle.codec_exports.specs.Answers.{headerAnswerOf}
-use Rattle.codec_exports.proofs.AnswerLaws.{matched}
+use Rattle.hub.proofs.AnswerLaws.{matched}
 
 abbrev tells : HeaderRead → HeaderAnswer
 tells a = headerAnswerOf (headerTold a)
 
--- src/answer.rt:249:27
+-- src/answer.rt:217:27
 enum-known-a : tie.Need-enum-known-a
 enum-known-a c = search needs
 
--- src/answer.rt:251:21
+-- src/answer.rt:220:21
 header-out-requires : tie.Need-header-out-requires
 header-out-requires c κs = search needs
 
--- src/answer.rt:253:29
+-- src/answer.rt:222:29
 enum-known-a-2 : tie.Need-enum-known-a-2
 enum-known-a-2 c = search needs
 
--- src/answer.rt:254:22
-ci-refusal-requires : tie.Need-ci-refusal-requires
-ci-refusal-requires c κs = search needs
+-- src/answer.rt:223:22
+number-requires : tie.Need-number-requires
+number-requires c κs = search needs
 
--- src/answer.rt:245:1
+-- src/answer.rt:224:20
+value-requires : tie.Need-value-requires
+value-requires c κs = search needs
+
+-- src/answer.rt:213:1
 returns : tie.Need-returns
 returns c = matched tells (c .before .before .a .given .1) (rw (c .header-out .ensures))
 
--- src/answer.rt:245:1
+-- src/answer.rt:213:1
 returns-2 : tie.Need-returns-2
-returns-2 c = matched tells (c .before .before .a2 .given .1) (rw (c .ci-refusal .ensures))
+returns-2 c = matched tells (c .before .before .before .a2 .given .1) (rw (c .before .number .ensures, c .value .ensures))
 
 pub header-read-spec : {M : Type 1} → statement M
 header-read-spec =
@@ -41,6 +45,7 @@ header-read-spec =
     enum-known-a
     header-out-requires
     enum-known-a-2
-    ci-refusal-requires
+    number-requires
+    value-requires
     returns
     returns-2)

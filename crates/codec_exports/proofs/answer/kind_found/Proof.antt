@@ -6,7 +6,7 @@ use Rattle.midici_core.specs.declared.spec.KindFound.{KindFound}
 use Rattle.midici_core.specs.Kinds.{kindTold}
 use Rattle.codec_exports.specs.declared.answer.KindAnswer.{KindAnswer}
 use Rattle.codec_exports.specs.Answers.{kindAnswerOf}
-use Rattle.codec_exports.proofs.AnswerLaws.{matched}
+use Rattle.hub.proofs.AnswerLaws.{matched}
 
 abbrev tells : KindFound → KindAnswer
 tells a = kindAnswerOf (kindTold a)

@@ -5,34 +5,38 @@ use Rattle.midici_core.specs.declared.pe_msg.MessageRead.{MessageRead}
 use Rattle.midici_core.specs.Message.{messageTold}
 use Rattle.codec_exports.specs.declared.answer.MessageAnswer.{MessageAnswer}
 use Rattle.codec_exports.specs.Answers.{messageAnswerOf}
-use Rattle.codec_exports.proofs.AnswerLaws.{matched}
+use Rattle.hub.proofs.AnswerLaws.{matched}
 
 abbrev tells : MessageRead → MessageAnswer
 tells a = messageAnswerOf (messageTold a)
 
--- src/answer.rt:284:28
+-- src/answer.rt:256:28
 enum-known-a : tie.Need-enum-known-a
 enum-known-a c = search needs
 
--- src/answer.rt:286:21
+-- src/answer.rt:259:21
 header-out-requires : tie.Need-header-out-requires
 header-out-requires c κs = search needs
 
--- src/answer.rt:290:30
+-- src/answer.rt:263:30
 enum-known-a-2 : tie.Need-enum-known-a-2
 enum-known-a-2 c = search needs
 
--- src/answer.rt:291:22
-ci-refusal-requires : tie.Need-ci-refusal-requires
-ci-refusal-requires c κs = search needs
+-- src/answer.rt:264:22
+number-requires : tie.Need-number-requires
+number-requires c κs = search needs
 
--- src/answer.rt:280:1
+-- src/answer.rt:265:20
+value-requires : tie.Need-value-requires
+value-requires c κs = search needs
+
+-- src/answer.rt:252:1
 returns : tie.Need-returns
 returns c = matched tells (c .before .before .a .given .1) (rw (c .header-out .ensures))
 
--- src/answer.rt:280:1
+-- src/answer.rt:252:1
 returns-2 : tie.Need-returns-2
-returns-2 c = matched tells (c .before .before .a2 .given .1) (rw (c .ci-refusal .ensures))
+returns-2 c = matched tells (c .before .before .before .a2 .given .1) (rw (c .before .number .ensures, c .value .ensures))
 
 pub message-read-spec : {M : Type 1} → statement M
 message-read-spec =
@@ -41,6 +45,7 @@ message-read-spec =
     enum-known-a
     header-out-requires
     enum-known-a-2
-    ci-refusal-requires
+    number-requires
+    value-requires
     returns
     returns-2)

@@ -3,55 +3,49 @@ use Rattle.codec_exports.proofs.answer.u14_read.Statement.{statement}
 use Rattle.codec_exports.proofs.answer.u14_read.Tie as tie
 use Rattle.pe_wire.specs.declared.wire.U14.{U14}
 use Rattle.pe_wire.specs.Wire.{u14Told}
-use Rattle.codec_exports.specs.declared.answer.Answer.{Answer}
-use Rattle.codec_exports.specs.Answers.{answerOf}
-use Rattle.codec_exports.proofs.AnswerLaws.{matched}
+use Rattle.hub.specs.declared.answer.Answer.{Answer}
+use Rattle.hub.specs.Answers.{answerOf}
+use Rattle.hub.proofs.AnswerLaws.{matched}
 
 abbrev tells : U14 → Answer
 tells a = answerOf (u14Told a)
 
--- src/answer.rt:155:20
+-- src/answer.rt:132:20
 enum-known-a : tie.Need-enum-known-a
 enum-known-a c = search needs
 
--- src/answer.rt:155:34
-cast-granted : tie.Need-cast-granted
-cast-granted c = search needs
+-- src/answer.rt:132:34
+cast-counted : tie.Need-cast-counted
+cast-counted c = search needs
 
--- src/answer.rt:155:26
-granted-requires : tie.Need-granted-requires
-granted-requires c κs = search needs
+-- src/answer.rt:132:26
+counted-requires : tie.Need-counted-requires
+counted-requires c κs = search needs
 
--- src/answer.rt:156:22
+-- src/answer.rt:133:22
 enum-known-a-2 : tie.Need-enum-known-a-2
 enum-known-a-2 c = search needs
 
--- src/answer.rt:156:36
-pe-refusal-requires : tie.Need-pe-refusal-requires
-pe-refusal-requires c κs = search needs
+-- src/answer.rt:133:28
+pe-refused-requires : tie.Need-pe-refused-requires
+pe-refused-requires c κs = search needs
 
--- src/answer.rt:156:28
-refused-requires : tie.Need-refused-requires
-refused-requires c κs = search needs
-
--- src/answer.rt:151:1
+-- src/answer.rt:128:1
 returns : tie.Need-returns
-returns c = matched tells (c .before .before .a .given .1) (c .granted .ensures)
+returns c = matched tells (c .before .before .a .given .1) (c .counted .ensures)
 
--- src/answer.rt:151:1
+-- src/answer.rt:128:1
 returns-2 : tie.Need-returns-2
-returns-2 c =
-    matched tells (c .before .before .before .a2 .given .1) (rw (c .before .pe-refusal .ensures) at (c .refused .ensures))
+returns-2 c = matched tells (c .before .before .a2 .given .1) (c .pe-refused .ensures)
 
 pub u14-read-spec : {M : Type 1} → statement M
 u14-read-spec =
     tie.close
     (tie.spec
     enum-known-a
-    cast-granted
-    granted-requires
+    cast-counted
+    counted-requires
     enum-known-a-2
-    pe-refusal-requires
-    refused-requires
+    pe-refused-requires
     returns
     returns-2)

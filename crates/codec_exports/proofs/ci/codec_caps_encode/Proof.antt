@@ -1,7 +1,7 @@
 use borrow.Author.Needs.{needs}
 use Rattle.codec_exports.proofs.ci.codec_caps_encode.Statement.{statement}
 use Rattle.codec_exports.proofs.ci.codec_caps_encode.Tie as tie
-use Rattle.codec_exports.proofs.AnswerLaws.{writes}
+use Rattle.hub.proofs.AnswerLaws.{writes}
 
 -- src/ci.rt:122:17
 header-in-requires : tie.Need-header-in-requires

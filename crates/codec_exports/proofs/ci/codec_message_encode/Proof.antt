@@ -1,7 +1,7 @@
 use borrow.Author.Needs.{needs}
 use Rattle.codec_exports.proofs.ci.codec_message_encode.Statement.{statement}
 use Rattle.codec_exports.proofs.ci.codec_message_encode.Tie as tie
-use Rattle.codec_exports.proofs.AnswerLaws.{writes}
+use Rattle.hub.proofs.AnswerLaws.{writes}
 
 -- src/ci.rt:145:9
 header-in-requires : tie.Need-header-in-requires

@@ -2,7 +2,7 @@ use mathlib.Core.Path.{ap, _∙_}
 use borrow.Author.Needs.{needs}
 use Rattle.codec_exports.proofs.ci.codec_muid_decode_7bit_le.Statement.{statement}
 use Rattle.codec_exports.proofs.ci.codec_muid_decode_7bit_le.Tie as tie
-use Rattle.codec_exports.specs.Answers.{answerOf}
+use Rattle.hub.specs.Answers.{answerOf}
 
 -- src/ci.rt:71:15
 decode-7bit-le-requires : tie.Need-decode-7bit-le-requires

@@ -2,7 +2,7 @@ use mathlib.Core.Path.{ap, _∙_}
 use borrow.Author.Needs.{needs}
 use Rattle.codec_exports.proofs.ci.codec_muid_from_u32.Statement.{statement}
 use Rattle.codec_exports.proofs.ci.codec_muid_from_u32.Tie as tie
-use Rattle.codec_exports.specs.Answers.{answerOf}
+use Rattle.hub.specs.Answers.{answerOf}
 
 -- src/ci.rt:36:15
 from-u32-requires : tie.Need-from-u32-requires

@@ -2,7 +2,7 @@ use mathlib.Core.Path.{ap, _∙_}
 use borrow.Author.Needs.{needs}
 use Rattle.codec_exports.proofs.ci.codec_muid_ordinary.Statement.{statement}
 use Rattle.codec_exports.proofs.ci.codec_muid_ordinary.Tie as tie
-use Rattle.codec_exports.specs.Answers.{answerOf}
+use Rattle.hub.specs.Answers.{answerOf}
 
 -- src/ci.rt:43:15
 ordinary-requires : tie.Need-ordinary-requires

@@ -1,7 +1,7 @@
 use borrow.Author.Needs.{needs}
 use Rattle.codec_exports.proofs.pe.codec_mcoded7_decode.Statement.{statement}
 use Rattle.codec_exports.proofs.pe.codec_mcoded7_decode.Tie as tie
-use Rattle.codec_exports.proofs.AnswerLaws.{writes}
+use Rattle.hub.proofs.AnswerLaws.{writes}
 
 -- src/pe.rt:33:16
 decode-requires : tie.Need-decode-requires

@@ -1,7 +1,7 @@
 use borrow.Author.Needs.{needs}
 use Rattle.codec_exports.proofs.pe.codec_mcoded7_encode.Statement.{statement}
 use Rattle.codec_exports.proofs.pe.codec_mcoded7_encode.Tie as tie
-use Rattle.codec_exports.proofs.AnswerLaws.{writes}
+use Rattle.hub.proofs.AnswerLaws.{writes}
 
 -- src/pe.rt:40:16
 encode-requires : tie.Need-encode-requires

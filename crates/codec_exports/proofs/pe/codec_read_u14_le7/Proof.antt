@@ -2,7 +2,7 @@ use mathlib.Core.Path.{ap, _∙_}
 use borrow.Author.Needs.{needs}
 use Rattle.codec_exports.proofs.pe.codec_read_u14_le7.Statement.{statement}
 use Rattle.codec_exports.proofs.pe.codec_read_u14_le7.Tie as tie
-use Rattle.codec_exports.specs.Answers.{answerOf}
+use Rattle.hub.specs.Answers.{answerOf}
 
 -- src/pe.rt:19:14
 read-u14-le7-requires : tie.Need-read-u14-le7-requires

@@ -1,7 +1,7 @@
 use borrow.Author.Needs.{needs}
 use Rattle.codec_exports.proofs.pe.codec_write_u14_le7.Statement.{statement}
 use Rattle.codec_exports.proofs.pe.codec_write_u14_le7.Tie as tie
-use Rattle.codec_exports.proofs.AnswerLaws.{writes}
+use Rattle.hub.proofs.AnswerLaws.{writes}
 
 -- src/pe.rt:26:16
 write-u14-le7-requires : tie.Need-write-u14-le7-requires

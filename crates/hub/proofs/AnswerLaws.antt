@@ -4,8 +4,8 @@ use Prim.Native.Nat.{ℕ}
 use mathlib.Core.List.{List}
 use mathlib.Core.Path.{_≡_, sym, ap, _∙_}
 use Rattle.seven_bit.specs.Reply.{Reply, Outcome, outcome}
-use Rattle.codec_exports.specs.declared.answer.Answer.{Answer}
-use Rattle.codec_exports.specs.Answers.{answerOf, written, writtenOf}
+use Rattle.hub.specs.declared.answer.Answer.{Answer}
+use Rattle.hub.specs.Answers.{answerOf, written, writtenOf}
 
 -- an arm of a match: what is right for its pattern is right for the value
 pub matched : {A B : Type 0} (f : A → B) {a pattern : A} {r : B} → a ≡ pattern → r ≡ f pattern → r ≡ f a

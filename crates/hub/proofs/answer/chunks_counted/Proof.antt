@@ -1,0 +1,51 @@
+use borrow.Author.Needs.{needs}
+use Rattle.hub.proofs.answer.chunks_counted.Statement.{statement}
+use Rattle.hub.proofs.answer.chunks_counted.Tie as tie
+use Rattle.pe_chunker.specs.declared.ChunkCount.{ChunkCount}
+use Rattle.pe_chunker.specs.Cut.{countTold}
+use Rattle.hub.specs.declared.answer.Answer.{Answer}
+use Rattle.hub.specs.Answers.{answerOf}
+use Rattle.hub.proofs.AnswerLaws.{matched}
+
+abbrev tells : ChunkCount → Answer
+tells a = answerOf (countTold a)
+
+-- src/answer.rt:61:28
+enum-known-a : tie.Need-enum-known-a
+enum-known-a c = search needs
+
+-- src/answer.rt:61:42
+cast-counted : tie.Need-cast-counted
+cast-counted c = search needs
+
+-- src/answer.rt:61:34
+counted-requires : tie.Need-counted-requires
+counted-requires c κs = search needs
+
+-- src/answer.rt:62:29
+enum-known-a-2 : tie.Need-enum-known-a-2
+enum-known-a-2 c = search needs
+
+-- src/answer.rt:62:35
+pe-refused-requires : tie.Need-pe-refused-requires
+pe-refused-requires c κs = search needs
+
+-- src/answer.rt:57:1
+returns : tie.Need-returns
+returns c = matched tells (c .before .before .a .given .1) (c .counted .ensures)
+
+-- src/answer.rt:57:1
+returns-2 : tie.Need-returns-2
+returns-2 c = matched tells (c .before .before .a2 .given .1) (c .pe-refused .ensures)
+
+pub chunks-counted-spec : {M : Type 1} → statement M
+chunks-counted-spec =
+    tie.close
+    (tie.spec
+    enum-known-a
+    cast-counted
+    counted-requires
+    enum-known-a-2
+    pe-refused-requires
+    returns
+    returns-2)

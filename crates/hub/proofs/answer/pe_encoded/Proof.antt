@@ -1,0 +1,40 @@
+use borrow.Author.Needs.{needs}
+use Rattle.hub.proofs.answer.pe_encoded.Statement.{statement}
+use Rattle.hub.proofs.answer.pe_encoded.Tie as tie
+use Rattle.pe_wire.specs.declared.wire.Encoded.{Encoded}
+use Rattle.pe_wire.specs.Wire.{encodedTold}
+use Rattle.hub.specs.declared.answer.Answer.{Answer}
+use Rattle.hub.specs.Answers.{answerOf}
+use Rattle.hub.proofs.AnswerLaws.{matched}
+
+abbrev tells : Encoded → Answer
+tells a = answerOf (encodedTold a)
+
+-- src/answer.rt:51:24
+enum-known-a : tie.Need-enum-known-a
+enum-known-a c = search needs
+
+-- src/answer.rt:51:30
+counted-requires : tie.Need-counted-requires
+counted-requires c κs = search needs
+
+-- src/answer.rt:52:26
+enum-known-a-2 : tie.Need-enum-known-a-2
+enum-known-a-2 c = search needs
+
+-- src/answer.rt:52:32
+pe-refused-requires : tie.Need-pe-refused-requires
+pe-refused-requires c κs = search needs
+
+-- src/answer.rt:47:1
+returns : tie.Need-returns
+returns c = matched tells (c .before .before .a .given .1) (c .counted .ensures)
+
+-- src/answer.rt:47:1
+returns-2 : tie.Need-returns-2
+returns-2 c = matched tells (c .before .before .a2 .given .1) (c .pe-refused .ensures)
+
+pub pe-encoded-spec : {M : Type 1} → statement M
+pe-encoded-spec =
+    tie.close
+    (tie.spec enum-known-a counted-requires enum-known-a-2 pe-refused-requires returns returns-2)

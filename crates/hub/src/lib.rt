@@ -1,0 +1,3 @@
+// What the hub's C program calls: numbers and slices of bytes go in, a struct of numbers comes out.
+pub mod answer;
+pub mod chunks;
