@@ -140,11 +140,23 @@ fn main() {
     field_reads(b"field 80 00:", &[0x80, 0x00]);
     field_writes(b"write 16383:", 16383);
     field_writes(b"write 16384:", 16384);
-    chunk_reads(b"chunk 05 02 00 7B 7D 01 00 01 00 00 00:", &[5, 2, 0, 0x7B, 0x7D, 1, 0, 1, 0, 0, 0]);
-    chunk_reads(b"one byte more:", &[5, 2, 0, 0x7B, 0x7D, 1, 0, 1, 0, 0, 0, 0]);
+    chunk_reads(
+        b"chunk 05 02 00 7B 7D 01 00 01 00 00 00:",
+        &[5, 2, 0, 0x7B, 0x7D, 1, 0, 1, 0, 0, 0],
+    );
+    chunk_reads(
+        b"one byte more:",
+        &[5, 2, 0, 0x7B, 0x7D, 1, 0, 1, 0, 0, 0, 0],
+    );
     chunk_reads(b"last byte gone:", &[5, 2, 0, 0x7B, 0x7D, 1, 0, 1, 0, 0]);
-    chunk_reads(b"chunk 05 01 00 7B 02 00 02 00 00 00:", &[5, 1, 0, 0x7B, 2, 0, 2, 0, 0, 0]);
-    chunk_reads(b"chunk 05 00 00 01 00 00 00 01 00 FF:", &[5, 0, 0, 1, 0, 0, 0, 1, 0, 0xFF]);
+    chunk_reads(
+        b"chunk 05 01 00 7B 02 00 02 00 00 00:",
+        &[5, 1, 0, 0x7B, 2, 0, 2, 0, 0, 0],
+    );
+    chunk_reads(
+        b"chunk 05 00 00 01 00 00 00 01 00 FF:",
+        &[5, 0, 0, 1, 0, 0, 0, 1, 0, 0xFF],
+    );
     later_carries(b"limit 0:", 0);
     later_carries(b"limit 128:", 128);
     later_carries(b"limit 4096:", 4096);
@@ -153,10 +165,34 @@ fn main() {
     first_carries(b"limit 128, header 105:", 128, 105);
     let header = [0x20u8; 48];
     let body = [0x41u8; 1000];
-    cut(b"header 48, body 1000, limit 256, chunk 1:", &header, &body, 256, 1);
-    cut(b"header 48, body 1000, limit 256, chunk 4:", &header, &body, 256, 4);
-    cut(b"header 48, body 1000, limit 256, chunk 5:", &header, &body, 256, 5);
-    cut(b"header 48, body 1000, limit 256, chunk 6:", &header, &body, 256, 6);
+    cut(
+        b"header 48, body 1000, limit 256, chunk 1:",
+        &header,
+        &body,
+        256,
+        1,
+    );
+    cut(
+        b"header 48, body 1000, limit 256, chunk 4:",
+        &header,
+        &body,
+        256,
+        4,
+    );
+    cut(
+        b"header 48, body 1000, limit 256, chunk 5:",
+        &header,
+        &body,
+        256,
+        5,
+    );
+    cut(
+        b"header 48, body 1000, limit 256, chunk 6:",
+        &header,
+        &body,
+        256,
+        6,
+    );
     cut(b"empty body, chunk 1:", &header, &body[..0], 256, 1);
     console_reads(b"console 7F 7F 7F 7F:", &[0x7F, 0x7F, 0x7F, 0x7F]);
     mcoded7_reads(b"mcoded7 40 01:", &[0x40, 0x01]);
