@@ -1,0 +1,6 @@
+pub mod TableLaws
+pub mod TableClose
+pub mod CallsLaws
+pub mod CallsSums
+pub mod CallsFresh
+pub mod PollLaws

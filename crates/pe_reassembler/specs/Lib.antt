@@ -1,0 +1,5 @@
+pub mod Table
+pub mod Feed
+pub mod Calls
+pub mod Poll
+pub mod Listing

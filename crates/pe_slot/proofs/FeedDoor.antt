@@ -1,0 +1,136 @@
+-- The laws of questions 30 and 31: what the tests before a slot's own questions tell, and what each of their answers leaves.
+-- Assumes nothing.
+use Prim.Native.Nat.{ℕ, _<_, _≤_}
+use mathlib.Core.Bool.{Bool, true, false, cond, not, _&&_, _||_, and-false}
+use mathlib.Core.List.{List}
+use mathlib.Core.Option.{Option, none, some}
+use mathlib.Core.Path.{_≡_, refl, sym, ap, _∙_}
+use native.Mathlib.Omega.{arith}
+use borrow.Author.Tests.{le-leb, lt-leb, leb-true, eqb-true, not-true, not-false}
+use lib.Dec.{leb, eqb}
+use lib.ListN.{length, take}
+use Rattle.seven_bit.specs.Reply.{refused}
+use Rattle.pe_frame.specs.Chunk.{Chunk}
+use Rattle.pe_slot.specs.declared.records.Pass.{Pass}
+use Rattle.pe_slot.specs.declared.slot.TxSlot.{TxSlot}
+use Rattle.pe_slot.specs.Slot.{judge}
+use Rattle.pe_slot.specs.Memory.{slotOf, contents, endsAt, isEnd, isSound}
+use Rattle.pe_slot.specs.Records.{Scanned}
+use Rattle.pe_slot.specs.Feed.{After, after, touched, placed, isShaped, feedSlot}
+use Rattle.pe_slot.specs.Steps.{isBounded, Ready}
+
+-- both sides of a true `&&`
+pub and-told : (a b : Bool) → (a && b) ≡ true → (a ≡ true) × (b ≡ true)
+and-told true b e = (refl, e)
+and-told false b e = absurd (let z : _≡_ {A = ℕ} 0 1 = cc in omega arith)
+
+-- the lengths of a slot's parts are in range
+pub record Shaped (words index header arena out-header out-body : List ℕ) : Type 0 where
+  pub nine : length words ≡ 9
+  pub records : length index ≤ 2048
+  pub bytes : length arena ≤ 65536
+  pub header-room : length header ≤ length out-header
+  pub body-room : length arena ≤ length out-body
+
+pub shaped-told : (words index header arena out-header out-body : List ℕ) → isShaped words index header arena out-header out-body ≡ true → Shaped words index header arena out-header out-body
+unfolding isShaped
+shaped-told words index header arena out-header out-body e =
+    let p₁ = and-told _ (leb (length arena) (length out-body)) e in
+    let p₂ = and-told _ (leb (length header) (length out-header)) (p₁ .0) in
+    let p₃ = and-told _ (leb (length arena) 65536) (p₂ .0) in
+    let p₄ = and-told _ (leb (length header) 4096) (p₃ .0) in
+    let p₅ = and-told (eqb (length words) 9) (leb (length index) 2048) (p₄ .0) in
+    record {
+      nine = eqb-true _ _ (p₅ .0);
+      records = leb-true _ _ (p₅ .1);
+      bytes = leb-true _ _ (p₃ .1);
+      header-room = leb-true _ _ (p₂ .1);
+      body-room = leb-true _ _ (p₁ .1);
+    }
+
+-- a slot's lengths are within its rooms
+pub record Bounded (H B R header-len index-len property-bytes : ℕ) : Type 0 where
+  pub head : header-len ≤ H
+  pub held : index-len ≤ R
+  pub body : property-bytes ≤ B
+
+pub bounded-told : (H B R active header-len index-len property-bytes : ℕ) → isBounded H B R active header-len index-len property-bytes ≡ true → Bounded H B R header-len index-len property-bytes
+bounded-told H B R active header-len index-len property-bytes e =
+    let p₁ = and-told (leb header-len H && leb index-len R && leb property-bytes B) (not (eqb active 0) || (eqb header-len 0 && eqb index-len 0)) e in
+    let p₂ = and-told (leb header-len H && leb index-len R) (leb property-bytes B) (p₁ .0) in
+    let p₃ = and-told (leb header-len H) (leb index-len R) (p₂ .0) in
+    record { head = leb-true _ _ (p₃ .0); held = leb-true _ _ (p₃ .1); body = leb-true _ _ (p₂ .1) }
+
+-- question 31 is the test of the lengths, and that of the records
+end-is : (laid : Bool) (end n : ℕ) → isEnd (cond laid (some end) none) n ≡ (laid && eqb end n)
+end-is true end n = refl
+end-is false end n = refl
+
+within-no : (x e d : Bool) → (x && d) ≡ false → (x && e && d) ≡ false
+within-no true e d q = rw q (and-false e)
+within-no false e d q = refl
+
+within-yes : (x e d : Bool) → (x && d) ≡ true → e ≡ true → (x && e && d) ≡ true
+within-yes true e d q r = rw r q
+within-yes false e d q r = q
+
+ends-no : (x e d : Bool) → e ≡ false → (x && e && d) ≡ false
+ends-no x e d q = rw (q, and-false x)
+
+laid-told : (laid : Bool) (end n : ℕ) → (laid && eqb end n) ≡ true → cond laid (some end) none ≡ some n
+laid-told true end n e = ap (λ (x : ℕ). some x) (eqb-true _ _ e)
+laid-told false end n e = absurd (let z : _≡_ {A = ℕ} 0 1 = cc in omega arith)
+
+module _ (H B R : ℕ) (t : TxSlot) (index : List ℕ) {bound : Bool} (q : bound ≡ isBounded H B R (t .active) (t .«header_len») (t .«index_len») (t .«property_bytes»)) where
+  pub unbounded : not bound ≡ true → isSound H B R t index ≡ false
+  unfolding isSound
+  unbounded n =
+      within-no (leb (t .«header_len») H && leb (t .«index_len») R && leb (t .«property_bytes») B) (isEnd (endsAt 0 (take (t .«index_len») index)) (t .«property_bytes»))
+      (not (eqb (t .active) 0) || (eqb (t .«header_len») 0 && eqb (t .«index_len») 0)) (sym q ∙ not-true bound n)
+
+  module _ {p : Pass} {n : ℕ} (l : Scanned p (take (t .«index_len») index) n) {met : Bool} (m : met ≡ (p .laid && eqb (p .end) (t .«property_bytes»))) where
+    is-end : isEnd (endsAt 0 (take (t .«index_len») index)) (t .«property_bytes») ≡ met
+    is-end = ap (λ (o : Option ℕ). isEnd o (t .«property_bytes»)) (sym (l .ends)) ∙ end-is (p .laid) (p .end) (t .«property_bytes») ∙ sym m
+
+    pub unlaid : not met ≡ true → isSound H B R t index ≡ false
+    unfolding isSound
+    unlaid k =
+        ends-no (leb (t .«header_len») H && leb (t .«index_len») R && leb (t .«property_bytes») B) (isEnd (endsAt 0 (take (t .«index_len») index)) (t .«property_bytes»))
+        (not (eqb (t .active) 0) || (eqb (t .«header_len») 0 && eqb (t .«index_len») 0)) (is-end ∙ not-true met k)
+
+    pub sound : not bound ≡ false → not met ≡ false → isSound H B R t index ≡ true
+    unfolding isSound
+    sound b k =
+        within-yes (leb (t .«header_len») H && leb (t .«index_len») R && leb (t .«property_bytes») B) (isEnd (endsAt 0 (take (t .«index_len») index)) (t .«property_bytes»))
+        (not (eqb (t .active) 0) || (eqb (t .«header_len») 0 && eqb (t .«index_len») 0)) (sym q ∙ not-false bound b) (is-end ∙ not-false met k)
+
+    pub ends : not met ≡ false → endsAt 0 (take (t .«index_len») index) ≡ some (t .«property_bytes»)
+    ends k = sym (l .ends) ∙ laid-told (p .laid) (p .end) (t .«property_bytes») (sym m ∙ not-false met k)
+
+-- what each answer leaves
+module _ (words index header arena : List ℕ) (c : Chunk) (now-ms tick : ℕ) (out-header out-body : List ℕ) where
+  pub fed-unshaped : isShaped words index header arena out-header out-body ≡ false
+      → after (refused 30 0) words index header arena out-header out-body ≡ feedSlot words index header arena c now-ms tick out-header out-body
+  unfolding feedSlot
+  fed-unshaped s = rw s
+
+  module _ (s : isShaped words index header arena out-header out-body ≡ true) {t : TxSlot} (e : t ≡ slotOf words) where
+    pub fed-damaged : isSound (length header) (length arena) (length index) t index ≡ false
+        → after (refused 31 0) words index header arena out-header out-body ≡ feedSlot words index header arena c now-ms tick out-header out-body
+    unfolding feedSlot
+    fed-damaged n = rw (s, ap (λ (x : TxSlot). isSound (length header) (length arena) (length index) x index) (sym e) ∙ n)
+
+    pub fed-long : isSound (length header) (length arena) (length index) t index ≡ true → 16383 < length (c .property)
+        → after (refused 1 0) words index header arena out-header out-body ≡ feedSlot words index header arena c now-ms tick out-header out-body
+    unfolding feedSlot
+    fed-long y l = rw (s, ap (λ (x : TxSlot). isSound (length header) (length arena) (length index) x index) (sym e) ∙ y, lt-leb _ _ l)
+
+    pub fed-sound : isSound (length header) (length arena) (length index) t index ≡ true → length (c .property) ≤ 16383
+        → placed (touched t (c .request-id) now-ms tick) index header arena c
+          (judge (length header) (length arena) (length index) (contents (touched t (c .request-id) now-ms tick) index header arena) c) out-header out-body
+          ≡ feedSlot words index header arena c now-ms tick out-header out-body
+    unfolding feedSlot contents
+    fed-sound y l =
+        rw (s, ap (λ (x : TxSlot). isSound (length header) (length arena) (length index) x index) (sym e) ∙ y, le-leb _ _ l)
+        (ap (λ (x : TxSlot). placed (touched x (c .request-id) now-ms tick) index header arena c
+          (judge (length header) (length arena) (length index) (contents x index header arena) c) out-header out-body) e)

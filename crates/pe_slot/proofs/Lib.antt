@@ -1,0 +1,9 @@
+pub mod RecordLaws
+pub mod OrderLaws
+pub mod OrderHeldLaws
+pub mod OrderJoinLaws
+pub mod SlotHeaders
+pub mod SlotMemory
+pub mod JudgeLaws
+pub mod FeedLaws
+pub mod FeedDoor

@@ -1,0 +1,6 @@
+pub mod Slot
+pub mod Memory
+pub mod Feed
+pub mod Records
+pub mod Order
+pub mod Steps

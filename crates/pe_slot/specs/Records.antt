@@ -1,0 +1,48 @@
+-- What the private passes over a slot's records say.
+-- Assumes nothing.
+use Prim.Native.Nat.{ℕ, _≤_}
+use mathlib.Core.Bool.{Bool, true, false, cond}
+use mathlib.Core.List.{List, [], _∷_, _++_}
+use mathlib.Core.Option.{Option, none, some}
+use mathlib.Core.Path.{_≡_}
+use lib.Dec.{eqb}
+use lib.ListN.{length, drop}
+use Rattle.pe_slot.specs.declared.records.Joined.{Joined}
+use Rattle.pe_slot.specs.declared.records.Pass.{Pass}
+use Rattle.pe_slot.specs.Memory.{metaNumber, endsAt}
+use Rattle.pe_slot.specs.Slot.{Piece, allHeld, bodyOf}
+
+-- Is a chunk number among the records?
+unfoldable pub holds : ℕ → List ℕ → Bool
+holds n [] = false
+holds n (x ∷ xs) = cond (eqb (metaNumber x) n) true (holds n xs)
+
+-- One pass: where the records end, if they lie end to end from 0, and whether the number is among them.
+pub record Scanned (r : Pass) (records : List ℕ) (n : ℕ) : Type 0 where
+  pub ends : cond (r .laid) (some (r .end)) none ≡ endsAt 0 records
+  pub held : r .held ≡ holds n records
+
+-- What joining asks: the records end within the arena, and the output has room for all of them.
+pub record Laid (records arena out : List ℕ) (n : ℕ) : Type 0 where
+  pub few : length records ≤ 2048
+  pub ends : endsAt 0 records ≡ some n
+  pub bytes : n ≤ length arena
+  pub room : n ≤ length out
+
+-- The body's length, where every number from 1 to the count is held, and the output then.
+pub record JoinedInto : Type 0 where
+  pub len : Option ℕ
+  pub out : List ℕ
+
+abbrev pub joinedTold : Joined → Option ℕ
+joinedTold (Joined.Body n) = some n
+joinedTold Joined.Missing = none
+
+abbrev pub joinedInto : Option ℕ → List ℕ → JoinedInto
+joinedInto len out = record { len = len; out = out }
+
+unfoldable pub joinPieces : ℕ → List Piece → List ℕ → JoinedInto
+joinPieces count ps out =
+    cond (allHeld count ps)
+    (joinedInto (some (length (bodyOf ps))) (bodyOf ps ++ drop (length (bodyOf ps)) out))
+    (joinedInto none out)

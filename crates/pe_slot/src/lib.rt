@@ -1,0 +1,4 @@
+// From reassembler.rs, TxSlot: one slot on its own parts of the lent memory.
+pub mod slot;
+
+mod records;
