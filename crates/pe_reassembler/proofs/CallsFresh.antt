@@ -42,7 +42,7 @@ length-fresh zero = refl
 length-fresh (suc n) =
     let e = length-fresh n in
     let l : length (replicate 36 0 ++ freshPeers n) ≡ length (replicate {A = ℕ} 36 0) + length (freshPeers n)
-      = length-append (replicate 36 0) (freshPeers n) in
+    = length-append (replicate 36 0) (freshPeers n) in
     omega arith
 
 fresh-next : (n : ℕ) → freshPeers n ++ freshPeers 1 ≡ freshPeers (suc n)
@@ -88,7 +88,7 @@ pub made : (shape : Shape) (numbers index headers arenas : List ℕ) {numbers′
     → numbers′ ≡ (1 ∷ freshPeers (shape .«max_peers»)) ++ drop (numbersLen shape) numbers
     → zeros ≡ replicate (length (take (roomsLen (shape .«fragment_records») shape - 0) (drop 0 index))) 0
     → fresh (granted 0) numbers′ (take 0 index ++ (zeros ++ drop (roomsLen (shape .«fragment_records») shape - 0) (drop 0 index)))
-      ≡ newCall shape numbers index headers arenas
+    ≡ newCall shape numbers index headers arenas
 unfolding newCall
 made shape numbers index headers arenas {numbers′} {zeros} t e f =
     let k : ℕ = roomsLen (shape .«fragment_records») shape in

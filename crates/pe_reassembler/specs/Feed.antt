@@ -67,7 +67,7 @@ lifted shape m peer p s a =
 unfoldable pub reach : Shape → Memory → ℕ → Chunk → ℕ → ℕ → ℕ → Fed
 reach shape m peer c now-ms p s =
     cond (isSound (shape .«header_bytes») (shape .«tx_bytes») (shape .«fragment_records»)
-      (slotOf (wordsPart (m .numbers) p s)) (roomPart (shape .«fragment_records») (m .index) p s))
+    (slotOf (wordsPart (m .numbers) p s)) (roomPart (shape .«fragment_records») (m .index) p s))
     (lifted shape m peer p s
     (feedSlot (wordsPart (m .numbers) p s) (roomPart (shape .«fragment_records») (m .index) p s)
     (roomPart (shape .«header_bytes») (m .headers) p s) (roomPart (shape .«tx_bytes») (m .arenas) p s)

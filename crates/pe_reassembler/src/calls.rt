@@ -98,7 +98,13 @@ fn fresh_numbers(numbers: &mut [u64], max_peers: usize)
 }
 
 // Makes a table in the lent memory; what lies past it keeps its values.
-pub fn new(shape: Shape, numbers: &mut [u64], index: &mut [u64], headers: &[u8], arenas: &[u8]) -> Made
+pub fn new(
+    shape: Shape,
+    numbers: &mut [u64],
+    index: &mut [u64],
+    headers: &[u8],
+    arenas: &[u8],
+) -> Made
     ensures { λ r. ⌜ fresh (madeTold r) (now (numbers .exit)) (now (index .exit)) ≡ newCall shape (now (numbers .entry)) (now (index .entry)) (now (headers .entry)) (now (arenas .entry)) ⌝ }
 {
     if !has_rooms(shape, numbers, index, headers, arenas) {

@@ -3,5 +3,4 @@ pub mod calls;
 pub mod feed;
 pub mod poll;
 pub mod shape;
-
 mod table;

@@ -12,12 +12,16 @@ ghost use Rattle.pe_reassembler.specs.Table.{inRange, hasNumbers, hasRoo
 
 // The words of a slot, and of a peer: bound, muid and four slots.
 pub(crate) const SLOT_WORDS: usize = 9;
+
 pub(crate) const PEER_WORDS: usize = 38;
 
 // A slot's words: active, request_id, last_activity_ms, lru_tick, num_chunks, header_set, header_len, index_len, property_bytes.
 pub(crate) const REQUEST_ID: usize = 1;
+
 pub(crate) const HEADER_LEN: usize = 6;
+
 pub(crate) const INDEX_LEN: usize = 7;
+
 pub(crate) const PROPERTY_BYTES: usize = 8;
 
 // A record or a slot, or none.
@@ -58,7 +62,13 @@ fn rooms_fit(max_peers: usize, size: usize, len: usize) -> bool
     4 * max_peers * size <= len
 }
 
-pub(crate) fn has_rooms(shape: Shape, numbers: &[u64], index: &[u64], headers: &[u8], arenas: &[u8]) -> bool
+pub(crate) fn has_rooms(
+    shape: Shape,
+    numbers: &[u64],
+    index: &[u64],
+    headers: &[u8],
+    arenas: &[u8],
+) -> bool
     ensures { λ r. ⌜ r ≡ hasRooms shape (now (numbers .entry)) (now (index .entry)) (now (headers .entry)) (now (arenas .entry)) ⌝ }
 {
     if !has_numbers(shape, numbers) {

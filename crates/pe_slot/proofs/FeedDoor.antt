@@ -127,10 +127,10 @@ module _ (words index header arena : List ℕ) (c : Chunk) (now-ms tick : ℕ) (
 
     pub fed-sound : isSound (length header) (length arena) (length index) t index ≡ true → length (c .property) ≤ 16383
         → placed (touched t (c .request-id) now-ms tick) index header arena c
-          (judge (length header) (length arena) (length index) (contents (touched t (c .request-id) now-ms tick) index header arena) c) out-header out-body
-          ≡ feedSlot words index header arena c now-ms tick out-header out-body
+        (judge (length header) (length arena) (length index) (contents (touched t (c .request-id) now-ms tick) index header arena) c) out-header out-body
+        ≡ feedSlot words index header arena c now-ms tick out-header out-body
     unfolding feedSlot contents
     fed-sound y l =
         rw (s, ap (λ (x : TxSlot). isSound (length header) (length arena) (length index) x index) (sym e) ∙ y, le-leb _ _ l)
         (ap (λ (x : TxSlot). placed (touched x (c .request-id) now-ms tick) index header arena c
-          (judge (length header) (length arena) (length index) (contents x index header arena) c) out-header out-body) e)
+        (judge (length header) (length arena) (length index) (contents x index header arena) c) out-header out-body) e)

@@ -61,8 +61,7 @@ module _ (t : TxSlot) (index header arena out-header out-body : List ℕ) {w : L
   finish-countless e h n = rw (e, ne-eqb _ _ h, eq-eqb _ _ n)
 
   module _ (known : t .«header_set» ≡ 0 → ⊥) (counted : t .«num_chunks» ≡ 0 → ⊥) {r : Joined} {b : List ℕ}
-    (j : joinedInto (joinedTold r) b ≡ joinPieces (t .«num_chunks») (piecesOf (take (t .«index_len») index) arena) out-body) where
-
+      (j : joinedInto (joinedTold r) b ≡ joinPieces (t .«num_chunks») (piecesOf (take (t .«index_len») index) arena) out-body) where
     pub finish-missing : w ≡ wordsOf t → r ≡ Joined.Missing → finished (granted still) w out-header b ≡ finishOf t (contents t index header arena) out-header out-body
     unfolding finishOf contents eventOf isWhole
     finish-missing e q =
@@ -81,12 +80,11 @@ module _ (t : TxSlot) (index header arena out-header out-body : List ℕ) {w : L
 
 -- the memory with what was stored, taken and added
 module _ (t : TxSlot) (index header arena : List ℕ) (c : Chunk) (stores takes : Bool)
-  (fits : stores ≡ true → length (c .header) ≤ length header) where
-
+    (fits : stores ≡ true → length (c .header) ≤ length header) where
   header-grown : (b : Bool) → (b ≡ true → length (c .header) ≤ length header)
       → cond (eqb (cond b 1 (t .«header_set»)) 0) none
-        (some (take (cond b (length (c .header)) (t .«header_len»)) (cond b (splice 0 (length (c .header)) header (c .header)) header)))
-        ≡ cond b (some (c .header)) (cond (eqb (t .«header_set») 0) none (some (take (t .«header_len») header)))
+      (some (take (cond b (length (c .header)) (t .«header_len»)) (cond b (splice 0 (length (c .header)) header (c .header)) header)))
+      ≡ cond b (some (c .header)) (cond (eqb (t .«header_set») 0) none (some (take (t .«header_len») header)))
   header-grown true f = ap (λ (h : List ℕ). some h) (part-splice 0 (length (c .header)) header (c .header) (let g = f refl in omega arith) refl)
   header-grown false f = refl
 
@@ -97,8 +95,7 @@ module _ (t : TxSlot) (index header arena : List ℕ) (c : Chunk) (stores takes 
   contents-kept = rw (header-grown stores fits)
 
   module _ (few : t .«index_len» < length index) (laid : endsAt 0 (take (t .«index_len») index) ≡ some (t .«property_bytes»))
-    (room : t .«property_bytes» + length (c .property) ≤ length arena) (named : c .chunk-num < 65536) (short : length (c .property) < 65536) where
-
+      (room : t .«property_bytes» + length (c .property) ≤ length arena) (named : c .chunk-num < 65536) (short : length (c .property) < 65536) where
     pub contents-grown : contents (grownBy t stores takes true (length (c .header)) (c .num-chunks) (length (c .property)))
         (set index (t .«index_len») (packed (c .chunk-num) (length (c .property)) (t .«property_bytes»)))
         (cond stores (splice 0 (length (c .header)) header (c .header)) header)
@@ -116,11 +113,11 @@ keep-splice false header new f = refl
 fit-splice : (xs : List ℕ) (a : ℕ) (ys : List ℕ) → a + length ys ≤ length xs → putFit xs a ys ≡ splice a (length ys) xs ys
 fit-splice xs a ys l = fit-yes xs a ys l ∙ put-is xs a ys l ∙ rw (drop-drop, append-assoc)
 
-length-kept : (b : Bool) (header new : List ℕ) → (b ≡ true → length new ≤ length header) → length (cond b (splice 0 (length new) header new) header) ≡ length header
+pub length-kept : (b : Bool) (header new : List ℕ) → (b ≡ true → length new ≤ length header) → length (cond b (splice 0 (length new) header new) header) ≡ length header
 length-kept true header new f = length-splice 0 (length new) header new (let g = f refl in omega arith) refl
 length-kept false header new f = refl
 
-new-length : (b : Bool) (n m k : ℕ) → (b ≡ true → n ≤ k) → m ≤ k → cond b n m ≤ k
+pub new-length : (b : Bool) (n m k : ℕ) → (b ≡ true → n ≤ k) → m ≤ k → cond b n m ≤ k
 new-length true n m k f l = f refl
 new-length false n m k f l = l
 
@@ -135,8 +132,7 @@ pub record Asking (t : TxSlot) (words index header arena out-header out-body : L
   pub kept : h ≡ cond (j .stores) (putFit header 0 (c .header)) header
 
 module _ {t : TxSlot} {words index header arena out-header out-body : List ℕ} {c : Chunk} {held : Bool} {j : Judged} {g : TxSlot} {h : List ℕ}
-  (a : Asking t words index header arena out-header out-body c held j g h) where
-
+    (a : Asking t words index header arena out-header out-body c held j g h) where
   fits : j .stores ≡ true → length (c .header) ≤ length header
   fits e = leb-true _ _ (header-fits t header c held (length index) (length arena) (ap (λ (x : Judged). x .stores) (sym (a .asked)) ∙ e))
 
@@ -146,8 +142,8 @@ module _ {t : TxSlot} {words index header arena out-header out-body : List ℕ} 
   -- the verdict, with the slot that a passed chunk leaves
   verdict : (p : Bool) → j .passed ≡ p
       → judge (length header) (length arena) (length index) (contents t index header arena) c
-        ≡ verdictOf p (j .error) (j .stores) (j .takes) (j .closes)
-          (afterChunk (contents t index header arena) c (eqb (c .chunk-num) 1 && eqb (t .«header_set») 0) (not (eqb (c .num-chunks) 0) && eqb (t .«num_chunks») 0) true)
+      ≡ verdictOf p (j .error) (j .stores) (j .takes) (j .closes)
+      (afterChunk (contents t index header arena) c (eqb (c .chunk-num) 1 && eqb (t .«header_set») 0) (not (eqb (c .num-chunks) 0) && eqb (t .«num_chunks») 0) true)
   verdict p e =
       let s : Slot = afterChunk (contents t index header arena) c (eqb (c .chunk-num) 1 && eqb (t .«header_set») 0) (not (eqb (c .num-chunks) 0) && eqb (t .«num_chunks») 0) true in
       judge-is t index header arena c (a .ready .held) (a .ready .ends) (a .ready .body)
@@ -159,21 +155,21 @@ module _ {t : TxSlot} {words index header arena out-header out-body : List ℕ} 
 
   refused-as : (error : PeError) (stores takes closes : Bool) (s : Slot)
       → after (peRefused error) (wordsOf (cond closes (closed (grownBy t stores takes false (length (c .header)) (c .num-chunks) (length (c .property)))) (grownBy t stores takes false (length (c .header)) (c .num-chunks) (length (c .property)))))
-        index (cond stores (splice 0 (length (c .header)) header (c .header)) header) arena out-header out-body
-        ≡ placed t index header arena c (verdictOf false error stores takes closes s) out-header out-body
+      index (cond stores (splice 0 (length (c .header)) header (c .header)) header) arena out-header out-body
+      ≡ placed t index header arena c (verdictOf false error stores takes closes s) out-header out-body
   unfolding placed
   refused-as error stores takes closes s = refl
 
   -- a no leaves the header that was stored and the words
   pub fed-refused : {w : List ℕ} → j .passed ≡ false → w ≡ wordsOf (cond (j .closes) (closed g) g)
       → after (peRefused (j .error)) w index h arena out-header out-body
-        ≡ placed t index header arena c (judge (length header) (length arena) (length index) (contents t index header arena) c) out-header out-body
+      ≡ placed t index header arena c (judge (length header) (length arena) (length index) (contents t index header arena) c) out-header out-body
   fed-refused {w} e q =
       let r : w ≡ wordsOf (cond (j .closes) (closed (grownBy t (j .stores) (j .takes) false (length (c .header)) (c .num-chunks) (length (c .property)))) (grownBy t (j .stores) (j .takes) false (length (c .header)) (c .num-chunks) (length (c .property)))) =
-          q ∙ ap (λ (x : TxSlot). wordsOf (cond (j .closes) (closed x) x)) (grew-as false e) in
+      q ∙ ap (λ (x : TxSlot). wordsOf (cond (j .closes) (closed x) x)) (grew-as false e) in
       rw (r, h-is)
       (refused-as (j .error) (j .stores) (j .takes) (j .closes)
-        (afterChunk (contents t index header arena) c (eqb (c .chunk-num) 1 && eqb (t .«header_set») 0) (not (eqb (c .num-chunks) 0) && eqb (t .«num_chunks») 0) true)
+      (afterChunk (contents t index header arena) c (eqb (c .chunk-num) 1 && eqb (t .«header_set») 0) (not (eqb (c .num-chunks) 0) && eqb (t .«num_chunks») 0) true)
       ∙ ap (λ (v : Verdict). placed t index header arena c v out-header out-body) (sym (verdict false e)))
 
   -- a yes to all
@@ -192,8 +188,7 @@ module _ {t : TxSlot} {words index header arena out-header out-body : List ℕ} 
     short′ = let s = a .short in omega arith
 
     module _ {i b : List ℕ} (ei : i ≡ set index (t .«index_len») (packed (c .chunk-num) (length (c .property)) (t .«property_bytes»)))
-      (eb : b ≡ putFit arena (t .«property_bytes») (c .property)) where
-
+        (eb : b ≡ putFit arena (t .«property_bytes») (c .property)) where
       b-is : b ≡ splice (t .«property_bytes») (length (c .property)) arena (c .property)
       b-is = eb ∙ fit-splice arena (t .«property_bytes») (c .property) room
 
@@ -234,17 +229,17 @@ module _ {t : TxSlot} {words index header arena out-header out-body : List ℕ} 
 
       passed-as : (error : PeError) (stores takes closes : Bool) (s : Slot)
           → (let f : Finished = finishOf (grownBy t stores takes true (length (c .header)) (c .num-chunks) (length (c .property))) s out-header out-body in
-            after (f .answer) (f .words) (set index (t .«index_len») (packed (c .chunk-num) (length (c .property)) (t .«property_bytes»)))
-            (cond stores (splice 0 (length (c .header)) header (c .header)) header) (splice (t .«property_bytes») (length (c .property)) arena (c .property))
-            (f .out-header) (f .out-body))
-            ≡ placed t index header arena c (verdictOf true error stores takes closes s) out-header out-body
+          after (f .answer) (f .words) (set index (t .«index_len») (packed (c .chunk-num) (length (c .property)) (t .«property_bytes»)))
+          (cond stores (splice 0 (length (c .header)) header (c .header)) header) (splice (t .«property_bytes») (length (c .property)) arena (c .property))
+          (f .out-header) (f .out-body))
+          ≡ placed t index header arena c (verdictOf true error stores takes closes s) out-header out-body
       unfolding placed finishOf
       passed-as error stores takes closes s = refl
 
       -- leaves what the last step tells, with the piece in its place
       pub fed-passed : {r : Reply Told} {w oh ob : List ℕ} → finished r w oh ob ≡ finishOf g (contents g i h b) out-header out-body
           → after r w i h b oh ob
-            ≡ placed t index header arena c (judge (length header) (length arena) (length index) (contents t index header arena) c) out-header out-body
+          ≡ placed t index header arena c (judge (length header) (length arena) (length index) (contents t index header arena) c) out-header out-body
       fed-passed {r} {w} {oh} {ob} q =
           ap (λ (f : Finished). after (f .answer) (f .words) i h b (f .out-header) (f .out-body))
           (q ∙ ap (λ (s : Slot). finishOf g s out-header out-body) follows
@@ -252,4 +247,4 @@ module _ {t : TxSlot} {words index header arena out-header out-body : List ℕ} 
           ∙ rw (ei, h-is, b-is)
           (passed-as (j .error) (j .stores) (j .takes) (j .closes) (afterChunk (contents t index header arena) c (j .stores) (j .takes) true)
           ∙ ap (λ (v : Verdict). placed t index header arena c v out-header out-body)
-            (ap (λ (s : Slot). verdictOf true (j .error) (j .stores) (j .takes) (j .closes) s) (sym flags) ∙ sym (verdict true e)))
+          (ap (λ (s : Slot). verdictOf true (j .error) (j .stores) (j .takes) (j .closes) s) (sym flags) ∙ sym (verdict true e)))

@@ -74,8 +74,8 @@ same-known false h new = refl
 pub judge-is : (t : TxSlot) (index header arena : List ℕ) (c : Chunk) → t .«index_len» ≤ length index
     → endsAt 0 (take (t .«index_len») index) ≡ some (t .«property_bytes») → t .«property_bytes» ≤ length arena
     → judge (length header) (length arena) (length index) (contents t index header arena) c
-      ≡ toVerdict (judgedOf t header c (holds (c .chunk-num) (take (t .«index_len») index)) (length index) (length arena))
-        (afterChunk (contents t index header arena) c (eqb (c .chunk-num) 1 && eqb (t .«header_set») 0) (not (eqb (c .num-chunks) 0) && eqb (t .«num_chunks») 0) true)
+    ≡ toVerdict (judgedOf t header c (holds (c .chunk-num) (take (t .«index_len») index)) (length index) (length arena))
+    (afterChunk (contents t index header arena) c (eqb (c .chunk-num) 1 && eqb (t .«header_set») 0) (not (eqb (c .num-chunks) 0) && eqb (t .«num_chunks») 0) true)
 unfolding judge judgedOf headerFits headerAgrees newHeader countAgrees newCount contents
 judge-is t index header arena c l e b =
     let records = take (t .«index_len») index in
@@ -140,6 +140,6 @@ module _ (t : TxSlot) (header : List ℕ) (c : Chunk) (holding : Bool) (R B : �
 
   pub piece-fits : judgedOf t header c holding R B .passed ≡ true
       → Passing (not (eqb (c .chunk-num) 1) || leb (length (c .header)) (length header)) (ltb (t .«index_len») R) (leb (t .«property_bytes» + length (c .property)) B)
-        (eqb (c .chunk-num) 1 && eqb (t .«header_set») 0) (not (eqb (c .num-chunks) 0) && eqb (t .«num_chunks») 0) (judgedOf t header c holding R B)
+      (eqb (c .chunk-num) 1 && eqb (t .«header_set») 0) (not (eqb (c .num-chunks) 0) && eqb (t .«num_chunks») 0) (judgedOf t header c holding R B)
   unfolding judgedOf
   piece-fits e = passing _ _ _ _ _ _ _ _ _ e

@@ -7,3 +7,4 @@ pub mod SlotMemory
 pub mod JudgeLaws
 pub mod FeedLaws
 pub mod FeedDoor
+pub mod FeedTheorems

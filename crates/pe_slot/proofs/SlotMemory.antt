@@ -96,7 +96,7 @@ pieces-before at (x ∷ xs) arena ys end k e l =
     let p = ends-cons at x xs end e in
     let r = ends-after (at + metaLen x) xs end (p .1) in
     let b : part (metaOffset x) (metaLen x) (splice end k arena ys) ≡ part (metaOffset x) (metaLen x) arena =
-        part-before end k (metaOffset x) (metaLen x) arena ys l (omega (arith, p .0)) in
+    part-before end k (metaOffset x) (metaLen x) arena ys l (omega (arith, p .0)) in
     let i = pieces-before (at + metaLen x) xs arena ys end k (p .1) l in
     rw b (ap (λ (ps : List Piece). record { number = metaNumber x; bytes = part (metaOffset x) (metaLen x) arena } ∷ ps) (unfold piecesOf in i))
 
@@ -107,9 +107,8 @@ map-snoc arena (y ∷ ys) x = ap (λ (ps : List Piece). pieceOf arena y ∷ ps) 
 
 -- a piece more: the record at the end of the records, and its bytes at the end of theirs
 module _ (index arena : List ℕ) (len end number : ℕ) (bytes : List ℕ)
-  (few : len < length index) (laid : endsAt 0 (take len index) ≡ some end) (room : end + length bytes ≤ length arena)
-  (named : number < 65536) (short : length bytes < 65536) where
-
+    (few : len < length index) (laid : endsAt 0 (take len index) ≡ some end) (room : end + length bytes ≤ length arena)
+    (named : number < 65536) (short : length bytes < 65536) where
   pub ends-grown : endsAt 0 (take (len + 1) (set index len (packed number (length bytes) end))) ≡ some (end + length bytes)
   ends-grown =
       rw (add-one, take-suc-set index len (packed number (length bytes) end) few)

@@ -1,4 +1,3 @@
 // From reassembler.rs, TxSlot: one slot on its own parts of the lent memory.
-pub mod slot;
-
 mod records;
+pub mod slot;

@@ -1,11 +1,11 @@
 // One slot: question 31, the questions of a chunk, completeness, joining.
-use pe_wire::error::PeError;
-use pe_wire::wire::U14_MAX;
 use super::records::Joined;
 use super::records::join;
 use super::records::pack;
 use super::records::scan;
-ghost use mathlib.Core.Bool.{cond, not, _&&_, _||_};
+use pe_wire::error::PeError;
+use pe_wire::wire::U14_MAX;
+ghost use mathlib.Core.Bool.{false, cond, not, _&&_, _||_};
 ghost use mathlib.Core.Path.{_≡_};
 ghost use Prim.Native.Nat.{_+_, _≤_};
 ghost use lib.Dec.{leb, ltb, eqb};
@@ -15,11 +15,14 @@ ghost use Rattle.pe_slot.specs.Slot.{eqList, judge};
 ghost use Rattle.pe_slot.specs.Memory.{slotOf, wordsOf, packed, contents, isEnd};
 ghost use Rattle.pe_slot.specs.Feed.{after, feedSlot, fedTold, placed, touched, closed};
 ghost use Rattle.pe_slot.specs.Records.{holds};
-ghost use Rattle.pe_slot.specs.Steps.{isBounded, judgedBy, judgedOf, grownBy, Ready, finished, finishOf};
+ghost use Rattle.pe_slot.specs.Steps.{isBounded, judged, judgedBy, judgedOf, grownBy, Ready, finished, finishOf};
 
 const SLOT_WORDS: usize = 9;
+
 const MAX_HEADER_BYTES: usize = 4096;
+
 const MAX_TX_BYTES: usize = 65_536;
+
 const MAX_FRAGMENT_RECORDS: usize = 2048;
 
 // The nine words of a slot.
@@ -294,6 +297,19 @@ fn is_new_count(num_chunks: u64, known: u64) -> bool
     known == 0
 }
 
+// A no, with what it leaves.
+fn refuses(error: PeError, stores: bool, takes: bool, closes: bool) -> Judged
+    ensures { λ r. ⌜ r ≡ judged false error stores takes closes ⌝ }
+{
+    Judged {
+        passed: false,
+        error,
+        stores,
+        takes,
+        closes,
+    }
+}
+
 // The questions in their order: 4, 8, 8, 8 and closing, 8, 5, 5 and closing. The error is read only where they are not all passed.
 fn judge(
     fits: bool,
@@ -309,27 +325,33 @@ fn judge(
     ensures { λ r. ⌜ r ≡ judgedBy fits agrees stores counts takes numbered held few roomy ⌝ }
 {
     if !fits {
-        return Judged { passed: false, error: PeError::HeaderTooLarge, stores: false, takes: false, closes: false };
+        return refuses(PeError::HeaderTooLarge, false, false, false);
     }
     if !agrees {
-        return Judged { passed: false, error: PeError::InconsistentChunking, stores: false, takes: false, closes: false };
+        return refuses(PeError::InconsistentChunking, false, false, false);
     }
     if !counts {
-        return Judged { passed: false, error: PeError::InconsistentChunking, stores, takes: false, closes: false };
+        return refuses(PeError::InconsistentChunking, stores, false, false);
     }
     if !numbered {
-        return Judged { passed: false, error: PeError::InconsistentChunking, stores, takes, closes: true };
+        return refuses(PeError::InconsistentChunking, stores, takes, true);
     }
     if held {
-        return Judged { passed: false, error: PeError::InconsistentChunking, stores, takes, closes: false };
+        return refuses(PeError::InconsistentChunking, stores, takes, false);
     }
     if !few {
-        return Judged { passed: false, error: PeError::Oversize, stores, takes, closes: false };
+        return refuses(PeError::Oversize, stores, takes, false);
     }
     if !roomy {
-        return Judged { passed: false, error: PeError::Oversize, stores, takes, closes: true };
+        return refuses(PeError::Oversize, stores, takes, true);
     }
-    Judged { passed: true, error: PeError::Oversize, stores, takes, closes: false }
+    Judged {
+        passed: true,
+        error: PeError::Oversize,
+        stores,
+        takes,
+        closes: false,
+    }
 }
 
 // The questions of a chunk, on a slot's words, its header room, whether its number is held, and the lengths of the other rooms.
@@ -376,7 +398,14 @@ fn keep_header(header: &mut [u8], chunk_header: &[u8], stores: bool)
 }
 
 // A piece behind those that are held: its bytes and its record.
-fn add_piece(index: &mut [u64], arena: &mut [u8], len: usize, at: usize, chunk_num: u16, property: &[u8])
+fn add_piece(
+    index: &mut [u64],
+    arena: &mut [u8],
+    len: usize,
+    at: usize,
+    chunk_num: u16,
+    property: &[u8],
+)
     requires { ⌜ (len + 1 ≤ length (now index)) × (at ≤ 65536) × (length (now property) ≤ 16383) ⌝ }
     ensures { λ _. ⌜ (now (index .exit) ≡ set (now (index .entry)) len (packed «chunk_num» (length (now (property .entry))) at)) × (now (arena .exit) ≡ putFit (now (arena .entry)) at (now (property .entry))) ⌝ }
 {
@@ -452,12 +481,30 @@ fn feed_sound(
 {
     let len = t.index_len as usize;
     let at = t.property_bytes as usize;
-    let v = ask(t, header, chunk_header, num_chunks, chunk_num, property, held, index.len(), arena.len());
+    let v = ask(
+        t,
+        header,
+        chunk_header,
+        num_chunks,
+        chunk_num,
+        property,
+        held,
+        index.len(),
+        arena.len(),
+    );
     let passed = v.passed;
     let stores = v.stores;
     let closes = v.closes;
     let error = v.error;
-    let grown = grow(t, stores, v.takes, passed, chunk_header.len() as u64, num_chunks as u64, property.len() as u64);
+    let grown = grow(
+        t,
+        stores,
+        v.takes,
+        passed,
+        chunk_header.len() as u64,
+        num_chunks as u64,
+        property.len() as u64,
+    );
     keep_header(header, chunk_header, stores);
     if !passed {
         settle(words, grown, closes);
@@ -495,13 +542,28 @@ pub fn feed_slot(
 ) -> Fed
     ensures { λ r. ⌜ after (fedTold r) (now (words .exit)) (now (index .exit)) (now (header .exit)) (now (arena .exit)) (now («out_header» .exit)) (now («out_body» .exit)) ≡ feedSlot (now (words .entry)) (now (index .entry)) (now (header .entry)) (now (arena .entry)) (record { request-id = «request_id»; header = now («chunk_header» .entry); num-chunks = «num_chunks»; chunk-num = «chunk_num»; property = now (property .entry) }) «now_ms» tick (now («out_header» .entry)) (now («out_body» .entry)) ⌝ }
 {
-    if !is_shaped(words.len(), index.len(), header.len(), arena.len(), out_header.len(), out_body.len()) {
+    if !is_shaped(
+        words.len(),
+        index.len(),
+        header.len(),
+        arena.len(),
+        out_header.len(),
+        out_body.len(),
+    ) {
         return Fed::Refused(PeError::BadShape);
     }
     let t = load(words);
     let len = t.index_len;
     let end = t.property_bytes;
-    if !is_bounded(header.len() as u64, arena.len() as u64, index.len() as u64, t.active, t.header_len, len, end) {
+    if !is_bounded(
+        header.len() as u64,
+        arena.len() as u64,
+        index.len() as u64,
+        t.active,
+        t.header_len,
+        len,
+        end,
+    ) {
         return Fed::Refused(PeError::DamagedSlot);
     }
     let pass = scan(index, len as usize, chunk_num as u64);
@@ -513,5 +575,18 @@ pub fn feed_slot(
         return Fed::Refused(PeError::BadField);
     }
     let open = touch(t, request_id, now_ms, tick);
-    feed_sound(words, index, header, arena, open, held, chunk_header, num_chunks, chunk_num, property, out_header, out_body)
+    feed_sound(
+        words,
+        index,
+        header,
+        arena,
+        open,
+        held,
+        chunk_header,
+        num_chunks,
+        chunk_num,
+        property,
+        out_header,
+        out_body,
+    )
 }

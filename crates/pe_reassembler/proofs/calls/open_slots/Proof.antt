@@ -51,9 +51,10 @@ add-result-3 c =
 
 -- src/calls.rt:121:1
 returns : tie.Need-returns
-returns c =
-    (four-flags (c .before .before .before .is-active .ensures) (c .before .before .is-active2 .ensures) (c .before .is-active3 .ensures) (c .is-active4 .ensures),
-    omega (arith, flag-below (c .before .before .before .is-active .result), flag-below (c .before .before .is-active2 .result), flag-below (c .before .is-active3 .result), flag-below (c .is-active4 .result)))
+returns c = (
+  four-flags (c .before .before .before .is-active .ensures) (c .before .before .is-active2 .ensures) (c .before .is-active3 .ensures) (c .is-active4 .ensures),
+  omega (arith, flag-below (c .before .before .before .is-active .result), flag-below (c .before .before .is-active2 .result), flag-below (c .before .is-active3 .result), flag-below (c .is-active4 .result)),
+)
 
 pub open-slots-spec : {M : Type 1} → statement M
 open-slots-spec =

@@ -28,7 +28,7 @@ same-length-2 c = search needs
 
 -- src/slot.rt:344:1
 returns : tie.Need-returns
-returns c = (rw (c  .before .before .before .before .pack .ensures), c  .before .before .copy-in .ensures)
+returns c = (rw (c .before .before .before .before .pack .ensures), c .before .before .copy-in .ensures)
 
 pub add-piece-spec : {M : Type 1} → statement M
 add-piece-spec =

@@ -7,7 +7,7 @@ use Rattle.pe_slot.specs.Steps.{judgedOf}
 
 -- src/slot.rt:355:21
 slice-aggregate-same : tie.Need-slice-aggregate-same
-slice-aggregate-same c = sym (length-take-le _ _ (c  .before .before .before .before .pre .0))
+slice-aggregate-same c = sym (length-take-le _ _ (c .before .before .before .before .pre .0))
 
 -- src/slot.rt:355:9
 same-requires : tie.Need-same-requires
@@ -47,12 +47,12 @@ unfolding judgedOf
 returns c =
     rw (
       c .judge .ensures,
-      c  .before .is-new-count .ensures,
-      c  .before .before .count-agrees .ensures,
-      c  .before .before .before .is-new-header .ensures,
-      c  .before .before .before .before .header-agrees .ensures,
-      c  .before .before .before .before .before .header-fits .ensures,
-      c  .before .before .before .before .before .before .same .ensures,
+      c .before .is-new-count .ensures,
+      c .before .before .count-agrees .ensures,
+      c .before .before .before .is-new-header .ensures,
+      c .before .before .before .before .header-agrees .ensures,
+      c .before .before .before .before .before .header-fits .ensures,
+      c .before .before .before .before .before .before .same .ensures,
     )
 
 pub ask-spec : {M : Type 1} → statement M

@@ -8,7 +8,7 @@ use Rattle.pe_frame.specs.Chunk.{Chunk}
 use Rattle.pe_slot.proofs.FeedLaws.{Asking, fed-refused, fed-passed, ready-grown, few}
 
 abbrev start : tie.After-slice-known7 → tie.Start
-start c = c  .before .before .before .before .before .before .before .before .before .before .before .before .before .before .before
+start c = c .before .before .before .before .before .before .before .before .before .before .before .before .before .before .before
 
 abbrev chunk : tie.Start → Chunk
 chunk s = record { request-id = s .args .t .«request_id»; header = now (s .args .chunk-header); num-chunks = s .args .num-chunks; chunk-num = s .args .chunk-num; property = now (s .args .property) }
@@ -22,9 +22,9 @@ asking c =
       short = s .pre .1 .0;
       named = (let f = s .fits in let g = s .good in omega arith);
       holding = s .pre .1 .1;
-      asked = c  .before .before .before .before .before .ask .ensures;
-      grew = c  .before .before .before .before .grow .ensures;
-      kept = c  .before .before .keep-header .ensures;
+      asked = c .before .before .before .before .before .ask .ensures;
+      grew = c .before .before .before .before .grow .ensures;
+      kept = c .before .before .keep-header .ensures;
     }
 
 -- src/slot.rt:455:9
@@ -41,7 +41,7 @@ keep-header-requires c κs = search needs
 
 -- src/slot.rt:463:9
 settle-requires : tie.Need-settle-requires
-settle-requires c κs = c  .before .before .before .before .before .before .before .before .before .before .before .before .before .before .before .before .before .pre .0 .nine
+settle-requires c κs = c .before .before .before .before .before .before .before .before .before .before .before .before .before .before .before .before .before .pre .0 .nine
 
 -- src/slot.rt:464:9
 same-length : tie.Need-same-length
@@ -53,13 +53,13 @@ same-length-2 c = search needs
 
 -- src/slot.rt:464:9
 returns : tie.Need-returns
-returns c = fed-refused (asking (c  .before .before .before .before .before)) (not-true _ (c  .before .before .before .before .if1 .taken)) (c  .before .before .settle .ensures)
+returns c = fed-refused (asking (c .before .before .before .before .before)) (not-true _ (c .before .before .before .before .if1 .taken)) (c .before .before .settle .ensures)
 
 -- src/slot.rt:466:5
 add-piece-requires : tie.Need-add-piece-requires
 add-piece-requires c κs =
-    let a = asking (c  .before .before .before) in
-    let e = not-false _ (c  .before .before .if1 .left) in
+    let a = asking (c .before .before .before) in
+    let e = not-false _ (c .before .before .if1 .left) in
     let f = few a e in
     let r = a .ready .body in
     let b = a .ready .bytes in
@@ -67,7 +67,10 @@ add-piece-requires c κs =
 
 -- src/slot.rt:467:5
 finish-requires : tie.Need-finish-requires
-finish-requires c κs = ready-grown (asking (c  .before .before .before .before .before .before .before .before .before .before .before .before .before .before)) (not-false _ (c  .before .before .before .before .before .before .before .before .before .before .before .before .before .if1 .left)) (c  .before .before .before .before .before .before .before .before .before .before .add-piece .ensures .0) (c  .before .before .before .before .before .before .before .before .before .before .add-piece .ensures .1)
+finish-requires c κs =
+    let u5 = c .before .before .before .before .before in
+    let u10 = u5 .before .before .before .before .before in
+    ready-grown (asking (u10 .before .before .before .before)) (not-false _ (u10 .before .before .before .if1 .left)) (u10 .add-piece .ensures .0) (u10 .add-piece .ensures .1)
 
 -- src/slot.rt:435:1
 same-length-3 : tie.Need-same-length-3
@@ -95,7 +98,12 @@ same-length-8 c = search needs
 
 -- src/slot.rt:435:1
 returns-2 : tie.Need-returns-2
-returns-2 c = fed-passed (asking (c  .before .before .before .before .before .before .before .before .before .before .before .before .before .before .before .before .before .before .before .before .before)) (not-false _ (c  .before .before .before .before .before .before .before .before .before .before .before .before .before .before .before .before .before .before .before .before .if1 .left)) (c  .before .before .before .before .before .before .before .before .before .before .before .before .before .before .before .before .before .add-piece .ensures .0) (c  .before .before .before .before .before .before .before .before .before .before .before .before .before .before .before .before .before .add-piece .ensures .1) (c  .before .before .before .before .before .before .finish .ensures)
+returns-2 c =
+    let u5 = c .before .before .before .before .before in
+    let u10 = u5 .before .before .before .before .before in
+    let u15 = u10 .before .before .before .before .before in
+    let u20 = u15 .before .before .before .before .before in
+    fed-passed (asking (u20 .before)) (not-false _ (u20 .if1 .left)) (u15 .before .before .add-piece .ensures .0) (u15 .before .before .add-piece .ensures .1) (u5 .before .finish .ensures)
 
 pub feed-sound-spec : {M : Type 1} → statement M
 feed-sound-spec =

@@ -18,8 +18,10 @@ same-length c = search needs
 -- src/slot.rt:419:9
 returns : tie.Need-returns
 returns c =
-    let a = c  .before .before .before .before .before .before .before .before .before .before .before .args in
-    finish-headless (a .t) (now (a .index)) (now (a .header)) (now (a .arena)) (now (a .out-header)) (now (a .out-body)) (c  .before .before .store .ensures) (c  .before .before .before .before .if1 .taken)
+    let u5 = c .before .before .before .before .before in
+    let u10 = u5 .before .before .before .before .before in
+    let a = u10 .before .args in
+    finish-headless (a .t) (now (a .index)) (now (a .header)) (now (a .arena)) (now (a .out-header)) (now (a .out-body)) (c .before .before .store .ensures) (c .before .before .before .before .if1 .taken)
 
 -- src/slot.rt:422:9
 store-requires-2 : tie.Need-store-requires-2
@@ -32,14 +34,16 @@ same-length-2 c = search needs
 -- src/slot.rt:423:9
 returns-2 : tie.Need-returns-2
 returns-2 c =
-    let a = c  .before .before .before .before .before .before .before .before .before .before .before .before .args in
+    let u5 = c .before .before .before .before .before in
+    let u10 = u5 .before .before .before .before .before in
+    let a = u10 .before .before .args in
     finish-countless (a .t) (now (a .index)) (now (a .header)) (now (a .arena)) (now (a .out-header)) (now (a .out-body))
-    (c  .before .before .store2 .ensures) (c  .before .before .before .before .before .if1 .left) (c  .before .before .before .before .if2 .taken)
+    (c .before .before .store2 .ensures) (u5 .if1 .left) (c .before .before .before .before .if2 .taken)
 
 -- src/slot.rt:425:34
 join-requires : tie.Need-join-requires
 join-requires c κs =
-    let s = c  .before .before .before .before .before .before .before .before .before in
+    let s = c .before .before .before .before .before .before .before .before .before in
     let k = length-take-le (s .args .t .«index_len») (now (s .args .index)) (s .pre .held) in
     (s .pre .held, record { few = (let p = s .pre .records in let q = s .pre .held in omega arith); ends = s .pre .ends; bytes = s .pre .body; room = (let p = s .pre .body in let q = s .pre .body-room in omega arith) })
 
@@ -66,13 +70,16 @@ same-length-4 c = search needs
 -- src/slot.rt:427:9
 returns-3 : tie.Need-returns-3
 returns-3 c =
-    let a = c  .before .before .before .before .before .before .before .before .before .before .before .before .before .before .before .before .before .before .args in
+    let u5 = c .before .before .before .before .before in
+    let u10 = u5 .before .before .before .before .before in
+    let u15 = u10 .before .before .before .before .before in
+    let a = u15 .before .before .before .args in
     finish-missing (a .t) (now (a .index)) (now (a .header)) (now (a .arena)) (now (a .out-header)) (now (a .out-body))
-    (c  .before .before .before .before .before .before .before .before .before .before .before .if1 .left) (c  .before .before .before .before .before .before .before .before .before .before .if2 .left) (c  .before .before .before .before .before .before .before .before .join .ensures) (c  .before .before .store3 .ensures) (c  .before .before .before .before .enum-told .given .1)
+    (u10 .before .if1 .left) (u10 .if2 .left) (u5 .before .before .before .join .ensures) (c .before .before .store3 .ensures) (c .before .before .before .before .enum-told .given .1)
 
 -- src/slot.rt:429:39
 slice-aggregate-copy-in : tie.Need-slice-aggregate-copy-in
-slice-aggregate-copy-in c = sym (length-take-le _ _ (c  .before .before .before .before .before .before .before .before .before .before .before .before .before .before .before .before .before .pre .head))
+slice-aggregate-copy-in c = sym (length-take-le _ _ (c .before .before .before .before .before .before .before .before .before .before .before .before .before .before .before .before .before .pre .head))
 
 -- src/slot.rt:429:5
 copy-in-requires : tie.Need-copy-in-requires
@@ -101,10 +108,15 @@ same-length-7 c = search needs
 -- src/slot.rt:400:1
 returns-4 : tie.Need-returns-4
 returns-4 c =
-    let a = c  .before .before .before .before .before .before .before .before .before .before .before .before .before .before .before .before .before .before .before .before .before .before .before .before .before .args in
+    let u5 = c .before .before .before .before .before in
+    let u10 = u5 .before .before .before .before .before in
+    let u15 = u10 .before .before .before .before .before in
+    let u20 = u15 .before .before .before .before .before in
+    let u25 = u20 .before .before .before .before .before in
+    let a = u25 .args in
     finish-whole (a .t) (now (a .index)) (now (a .header)) (now (a .arena)) (now (a .out-header)) (now (a .out-body))
-    (c  .before .before .before .before .before .before .before .before .before .before .before .before .before .before .before .before .before .before .if1 .left) (c  .before .before .before .before .before .before .before .before .before .before .before .before .before .before .before .before .before .if2 .left) (c  .before .before .before .before .before .before .before .before .before .before .before .before .before .before .before .join .ensures) (c  .before .before .before .before .before .before .before .before .before .before .before .body-len .given .0 .0)
-    (c  .before .before .store4 .ensures) (c  .before .before .before .close .ensures) (c  .before .before .before .before .before .before .before .before .before .before .before .body-len .given .1) (c  .before .before .before .before .before .before .before .copy-in .ensures) (c  .before .before .before .before .before .before .before .before .before .before .before .before .before .before .before .before .before .before .before .before .before .before .before .before .before .pre .head) (c  .before .before .before .before .before .before .before .before .before .before .before .before .before .before .before .before .before .before .before .before .before .before .before .before .before .pre .header-room)
+    (u15 .before .before .before .if1 .left) (u15 .before .before .if2 .left) (u15 .join .ensures) (u10 .before .body-len .given .0 .0)
+    (c .before .before .store4 .ensures) (c .before .before .before .close .ensures) (u10 .before .body-len .given .1) (u5 .before .before .copy-in .ensures) (u25 .pre .head) (u25 .pre .header-room)
 
 pub finish-spec : {M : Type 1} → statement M
 finish-spec =

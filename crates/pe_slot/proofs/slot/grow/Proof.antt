@@ -32,7 +32,7 @@ pick-requires-5 c κs = search needs
 
 -- src/slot.rt:115:1
 returns : tie.Need-returns
-returns c = rw (c .pick5 .ensures, c  .before .before .pick4 .ensures, c  .before .before .before .before .pick3 .ensures, c  .before .before .before .before .before .pick2 .ensures, c  .before .before .before .before .before .before .pick .ensures)
+returns c = rw (c .pick5 .ensures, c .before .before .pick4 .ensures, c .before .before .before .before .pick3 .ensures, c .before .before .before .before .before .pick2 .ensures, c .before .before .before .before .before .before .pick .ensures)
 
 pub grow-spec : {M : Type 1} → statement M
 grow-spec =

@@ -13,7 +13,7 @@ returns-2 c = rw (le-leb _ _ (c .before .if1 .left), lt-leb _ _ (c .if2 .taken))
 
 -- src/slot.rt:218:9
 returns-3 : tie.Need-returns-3
-returns-3 c = rw (le-leb _ _ (c  .before .before .if1 .left), le-leb _ _ (c .before .if2 .left), lt-leb _ _ (c .if3 .taken))
+returns-3 c = rw (le-leb _ _ (c .before .before .if1 .left), le-leb _ _ (c .before .if2 .left), lt-leb _ _ (c .if3 .taken))
 
 -- src/slot.rt:220:5
 is-empty-if-free-requires : tie.Need-is-empty-if-free-requires
@@ -21,7 +21,7 @@ is-empty-if-free-requires c κs = search needs
 
 -- src/slot.rt:200:1
 returns-4 : tie.Need-returns-4
-returns-4 c = rw (le-leb _ _ (c  .before .before .before .if1 .left), le-leb _ _ (c  .before .before .if2 .left), le-leb _ _ (c .before .if3 .left), c .is-empty-if-free .ensures)
+returns-4 c = rw (le-leb _ _ (c .before .before .before .if1 .left), le-leb _ _ (c .before .before .if2 .left), le-leb _ _ (c .before .if3 .left), c .is-empty-if-free .ensures)
 
 pub is-bounded-spec : {M : Type 1} → statement M
 is-bounded-spec =

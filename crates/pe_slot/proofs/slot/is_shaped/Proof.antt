@@ -16,15 +16,15 @@ returns-3 c = rw (eq-eqb _ _ (c .before .before .if1 .left), le-leb _ _ (c .befo
 
 -- src/slot.rt:178:9
 returns-4 : tie.Need-returns-4
-returns-4 c = rw (eq-eqb _ _ (c  .before .before .before .if1 .left), le-leb _ _ (c  .before .before .if2 .left), le-leb _ _ (c  .before .if3 .left), lt-leb _ _ (c .if4 .taken))
+returns-4 c = rw (eq-eqb _ _ (c .before .before .before .if1 .left), le-leb _ _ (c .before .before .if2 .left), le-leb _ _ (c .before .if3 .left), lt-leb _ _ (c .if4 .taken))
 
 -- src/slot.rt:181:9
 returns-5 : tie.Need-returns-5
-returns-5 c = rw (eq-eqb _ _ (c  .before .before .before .before .if1 .left), le-leb _ _ (c  .before .before .before .if2 .left), le-leb _ _ (c  .before .before .if3 .left), le-leb _ _ (c  .before .if4 .left), lt-leb _ _ (c .if5 .taken))
+returns-5 c = rw (eq-eqb _ _ (c .before .before .before .before .if1 .left), le-leb _ _ (c .before .before .before .if2 .left), le-leb _ _ (c .before .before .if3 .left), le-leb _ _ (c .before .if4 .left), lt-leb _ _ (c .if5 .taken))
 
 -- src/slot.rt:158:1
 returns-6 : tie.Need-returns-6
-returns-6 c = rw (eq-eqb _ _ (c  .before .before .before .before .if1 .left), le-leb _ _ (c  .before .before .before .if2 .left), le-leb _ _ (c  .before .before .if3 .left), le-leb _ _ (c  .before .if4 .left), le-leb _ _ (c .if5 .left))
+returns-6 c = rw (eq-eqb _ _ (c .before .before .before .before .if1 .left), le-leb _ _ (c .before .before .before .if2 .left), le-leb _ _ (c .before .before .if3 .left), le-leb _ _ (c .before .if4 .left), le-leb _ _ (c .if5 .left))
 
 pub is-shaped-spec : {M : Type 1} → statement M
 is-shaped-spec = tie.close (tie.spec returns returns-2 returns-3 returns-4 returns-5 returns-6)

@@ -12,7 +12,7 @@ same-length c = search needs
 
 -- src/slot.rt:335:1
 returns : tie.Need-returns
-returns c = rw (c  .before .before .before .before .if1 .taken) (c  .before .before .copy-in .ensures)
+returns c = rw (c .before .before .before .before .if1 .taken) (c .before .before .copy-in .ensures)
 
 -- src/slot.rt:335:1
 returns-2 : tie.Need-returns-2

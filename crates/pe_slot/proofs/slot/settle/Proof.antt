@@ -18,7 +18,7 @@ same-length c = search needs
 
 -- src/slot.rt:359:9
 returns : tie.Need-returns
-returns c = rw (c  .before .before .before .before .before .if1 .taken) (c  .before .before .store .ensures ∙ ap wordsOf (c  .before .before .before .close .ensures))
+returns c = rw (c .before .before .before .before .before .if1 .taken) (c .before .before .store .ensures ∙ ap wordsOf (c .before .before .before .close .ensures))
 
 -- src/slot.rt:361:5
 store-requires-2 : tie.Need-store-requires-2
@@ -30,7 +30,7 @@ same-length-2 c = search needs
 
 -- src/slot.rt:353:1
 returns-2 : tie.Need-returns-2
-returns-2 c = rw (c  .before .before .before .before .if1 .left) (c  .before .before .store2 .ensures)
+returns-2 c = rw (c .before .before .before .before .if1 .left) (c .before .before .store2 .ensures)
 
 pub settle-spec : {M : Type 1} → statement M
 settle-spec =
