@@ -4,3 +4,4 @@ pub mod CallsLaws
 pub mod CallsSums
 pub mod CallsFresh
 pub mod PollLaws
+pub mod FeedLaws

@@ -3,3 +3,4 @@ pub mod Feed
 pub mod Calls
 pub mod Poll
 pub mod Listing
+pub mod Steps

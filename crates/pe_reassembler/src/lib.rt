@@ -1,5 +1,6 @@
-// From reassembler.rs, Reassembler: the calls over lent memory. feed is to come; its definition stands in specs/Feed.antt.
+// From reassembler.rs, Reassembler: the calls over lent memory.
 pub mod calls;
+pub mod feed;
 pub mod poll;
 pub mod shape;
 mod table;

@@ -107,7 +107,7 @@ fn is_bound(numbers: &[u64], p: usize) -> bool
     numbers[at] != 0
 }
 
-fn bound_to(numbers: &[u64], p: usize, peer: u32) -> bool
+pub(crate) fn bound_to(numbers: &[u64], p: usize, peer: u32) -> bool
     requires { ⌜ (p < 16) × (39 + 38 * p ≤ length (now numbers)) ⌝ }
     ensures { λ r. ⌜ r ≡ boundTo (now (numbers .entry)) peer p ⌝ }
 {
