@@ -22,7 +22,7 @@ pub data Question : Type 0 where
   later-carries : ℕ → Question
   first-carries : ℕ → ℕ → Question
   cut-into : ℕ → ℕ → ℕ → Question
-  console-reads : List ℕ → Question
+  muid-reads : List ℕ → Question
   mcoded7-reads : List ℕ → Question
   counter-steps : ℕ → Question
 
@@ -40,7 +40,7 @@ answer (chunk-reads s) = andThen (readFields s) (λ f. granted (numbers f))
 answer (later-carries limit) = granted (laterCapacity limit ∷ [])
 answer (first-carries limit header) = one (askFirst limit header)
 answer (cut-into limit header body) = granted (map length (bodyPieces limit header (replicate body 0)))
-answer (console-reads s) = one (readMuid s)
+answer (muid-reads s) = one (readMuid s)
 answer (mcoded7-reads s) = readMcoded7 s 8
 answer (counter-steps c) = granted (stepped c ∷ [])
 
@@ -72,7 +72,7 @@ examples =
     -- "Header 48, body 1,000, limit 256: 184, 232, 232, 232, 120."
     ∷ record { question = cut-into 256 48 1000; expected = granted (184 ∷ 232 ∷ 232 ∷ 232 ∷ 120 ∷ []) }
     -- "Console 7F 7F 7F 7F is 0FFFFFFF."
-    ∷ record { question = console-reads (0x7F ∷ 0x7F ∷ 0x7F ∷ 0x7F ∷ []); expected = granted (0x0FFFFFFF ∷ []) }
+    ∷ record { question = muid-reads (0x7F ∷ 0x7F ∷ 0x7F ∷ 0x7F ∷ []); expected = granted (0x0FFFFFFF ∷ []) }
     -- "Mcoded7 40 01 is 81."
     ∷ record { question = mcoded7-reads (0x40 ∷ 0x01 ∷ []); expected = granted (0x81 ∷ []) }
     -- "Counter 127 steps to 1."

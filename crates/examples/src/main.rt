@@ -103,7 +103,7 @@ fn cut(what: &[u8], header: &[u8], body: &[u8], limit: u32, k: u16) {
     }
 }
 
-fn console_reads(what: &[u8], bytes: &[u8; 4]) {
+fn muid_reads(what: &[u8], bytes: &[u8; 4]) {
     io::write_all(STDOUT_FILENO, what);
     match Muid::decode_7bit_le(bytes) {
         MuidRead::Value(m) => {
@@ -194,7 +194,7 @@ fn main() {
         6,
     );
     cut(b"empty body, chunk 1:", &header, &body[..0], 256, 1);
-    console_reads(b"console 7F 7F 7F 7F:", &[0x7F, 0x7F, 0x7F, 0x7F]);
+    muid_reads(b"console 7F 7F 7F 7F:", &[0x7F, 0x7F, 0x7F, 0x7F]);
     mcoded7_reads(b"mcoded7 40 01:", &[0x40, 0x01]);
     counter_steps(b"counter 127:", 127);
 }
