@@ -4,3 +4,4 @@ pub mod Calls
 pub mod Poll
 pub mod Listing
 pub mod Steps
+pub mod Open

@@ -8,7 +8,7 @@ use lib.ListN.{length, getD, drop}
 use Rattle.seven_bit.specs.Reply.{Reply, granted, refused}
 use Rattle.pe_reassembler.specs.declared.shape.Shape.{Shape}
 use Rattle.pe_reassembler.specs.Calls.{closeAt}
-use Rattle.pe_reassembler.specs.Table.{hasNumbers, isActive, peerAt, slotAt}
+use Rattle.pe_reassembler.specs.Table.{hasNumbers, isActive, peerAt, slotAt, rowsFrom}
 
 -- An open slot whose time is up.
 unfoldable pub isDue : List ℕ → ℕ → ℕ → ℕ → Bool
@@ -23,12 +23,9 @@ abbrev pub timeoutOf : List ℕ → ℕ → ℕ → Timeout
 timeoutOf numbers p s =
     record { tick = getD numbers (slotAt p s + 3) 0; peer = getD numbers (peerAt p + 1) 0; request-id = getD numbers (slotAt p s + 1) 0 }
 
--- Those of the k slots from place i on, a place being 4 p + s, by place.
-unfoldable pub dueFrom : List ℕ → ℕ → ℕ → ℕ → ℕ → List Timeout
-dueFrom numbers now-ms p s zero = []
-dueFrom numbers now-ms p s (suc k) =
-    cond (isDue numbers now-ms p s) (timeoutOf numbers p s ∷ []) []
-    ++ cond (leb 3 s) (dueFrom numbers now-ms (p + 1) 0 k) (dueFrom numbers now-ms p (s + 1) k)
+-- Those of the k slots from slot s of record p on, by place.
+abbrev pub dueFrom : List ℕ → ℕ → ℕ → ℕ → ℕ → List Timeout
+dueFrom numbers now-ms p s k = rowsFrom (isDue numbers now-ms) (timeoutOf numbers) p s k
 
 -- By tick, and those of one tick as they stand.
 unfoldable pub byTick : Timeout → List Timeout → List Timeout

@@ -2,7 +2,7 @@
 -- Assumes nothing.
 use Prim.Native.Nat.{ℕ, zero, suc, _+_, _*_}
 use mathlib.Core.Bool.{Bool, true, false, cond, not, _&&_}
-use mathlib.Core.List.{List}
+use mathlib.Core.List.{List, [], _∷_, _++_}
 use mathlib.Core.Option.{Option, none, some}
 use lib.Dec.{leb, eqb}
 use lib.ListN.{length, getD}
@@ -93,6 +93,13 @@ slotOpen numbers p request-id = first (hasId numbers request-id p) 4
 
 unfoldable pub slotFor : List ℕ → ℕ → ℕ → Option ℕ
 slotFor numbers p request-id = orElse (slotOpen numbers p request-id) (first (λ (s : ℕ). not (isActive numbers p s)) 4)
+
+-- What a slot gives, for those of the k slots from slot s of record p on that a test takes, by place.
+unfoldable pub rowsFrom : {A : Type 0} → (ℕ → ℕ → Bool) → (ℕ → ℕ → A) → ℕ → ℕ → ℕ → List A
+rowsFrom test row p s zero = []
+rowsFrom test row p s (suc k) =
+    cond (test p s) (row p s ∷ []) []
+    ++ cond (leb 3 s) (rowsFrom test row (p + 1) 0 k) (rowsFrom test row p (s + 1) k)
 
 abbrev pub placeTold : Place → Option ℕ
 placeTold (Place.At i) = some i

@@ -1,0 +1,5 @@
+pub mod Lists
+pub mod Model
+pub mod Calls
+pub mod Run
+pub mod Demand

@@ -1,0 +1,26 @@
+-- Lists with tests.
+-- Assumes nothing.
+use Prim.Native.Nat.{ℕ, suc}
+use mathlib.Core.Bool.{Bool, true, false, cond}
+use mathlib.Core.List.{List, [], _∷_}
+use lib.Dec.{eqb}
+
+module _ {A : Type 0} where
+  -- Those that a test takes, in their order, and how many they are.
+  abbrev pub keep : (A → Bool) → List A → List A
+  keep test [] = []
+  keep test (x ∷ xs) = cond (test x) (x ∷ keep test xs) (keep test xs)
+
+  abbrev pub tally : (A → Bool) → List A → ℕ
+  tally test [] = 0
+  tally test (x ∷ xs) = cond (test x) (suc (tally test xs)) (tally test xs)
+
+-- Is the number in the list?
+abbrev pub memb : ℕ → List ℕ → Bool
+memb n [] = false
+memb n (x ∷ xs) = cond (eqb n x) true (memb n xs)
+
+-- How many different numbers there are.
+abbrev pub kinds : List ℕ → ℕ
+kinds [] = 0
+kinds (x ∷ xs) = cond (memb x xs) (kinds xs) (suc (kinds xs))

@@ -1,0 +1,124 @@
+-- The model of what is open (document 01's book): "kept from the calls' arguments alone: open transfers, each with console, request id,
+-- time, header or none, count or 0, and pieces (frame number, property bytes). It starts empty."
+-- Assumes nothing.
+use Prim.Native.Nat.{ℕ, _-_}
+use mathlib.Core.Bool.{Bool, true, false, cond, not, _&&_, _||_}
+use mathlib.Core.List.{List, [], _∷_, _++_, map}
+use mathlib.Core.Option.{Option, none, some}
+use lib.Dec.{leb, ltb, eqb}
+use lib.ListN.{length}
+use Rattle.seven_bit.specs.Reply.{Reply, refused}
+use Rattle.pe_frame.specs.Chunk.{Chunk}
+use Rattle.pe_slot.specs.Slot.{Slot, Event, Verdict, judge, slotAfter}
+use Rattle.pe_run.specs.Lists.{keep, tally, kinds}
+
+-- What is open: the time of its last chunk, and header, count and pieces.
+pub record Open : Type 0 where
+  pub time : ℕ
+  pub slot : Slot
+
+pub record Entry : Type 0 where
+  pub peer : ℕ
+  pub request-id : ℕ
+  pub state : Open
+
+abbrev pub Model : Type 0
+Model = List Entry
+
+-- Under this peer and request id? Under this peer? "now − time at least 3,000 (0 if the clock went back)"?
+abbrev pub isAt : ℕ → ℕ → Entry → Bool
+isAt peer request-id e = eqb peer (e .peer) && eqb request-id (e .request-id)
+
+abbrev pub isOf : ℕ → Entry → Bool
+isOf peer e = eqb peer (e .peer)
+
+abbrev pub isLate : ℕ → Entry → Bool
+isLate now-ms e = leb 3000 (now-ms - e .state .time)
+
+abbrev pub find : ℕ → ℕ → Model → Option Open
+find peer request-id [] = none
+find peer request-id (e ∷ b) = cond (isAt peer request-id e) (some (e .state)) (find peer request-id b)
+
+abbrev pub isNone : {A : Type 0} → Option A → Bool
+isNone none = true
+isNone (some x) = false
+
+-- How many a peer has open, and how many peers have something open.
+abbrev pub openOf : ℕ → Model → ℕ
+openOf peer b = tally (isOf peer) b
+
+abbrev pub peerOf : Entry → ℕ
+peerOf e = e .peer
+
+abbrev pub peersOpen : Model → ℕ
+peersOpen b = kinds (map peerOf b)
+
+-- "A console finds a record if it has a transfer open in the book, or fewer than n consoles have."
+unfoldable pub findsRecord : ℕ → ℕ → Model → Bool
+findsRecord n peer b = not (eqb (openOf peer b) 0) || ltb (peersOpen b) n
+
+-- "its id is not open there and four others are"
+unfoldable pub hasFour : ℕ → ℕ → Model → Bool
+hasFour peer request-id b = isNone (find peer request-id b) && leb 4 (openOf peer b)
+
+-- "Else its transfer, opened if need be, takes the call's time"
+abbrev pub touchedAt : Option Open → ℕ → Open
+touchedAt none now-ms = record { time = now-ms; slot = record { header = none; count = 0; pieces = [] } }
+touchedAt (some o) now-ms = record { time = now-ms; slot = o .slot }
+
+-- "**Transfer**'s questions are put to the book, with what they store, take and close", at full size: H 4,096, B 65,536, R 2,048.
+pub record Judged : Type 0 where
+  pub left : Option Open
+  pub answer : Reply Event
+
+unfoldable pub judged : Open → Chunk → Judged
+judged o c =
+    let v : Verdict = judge 4096 65536 2048 (o .slot) c in
+    record {
+      left = cond (v .closes) none (some (record { time = o .time; slot = slotAfter (o .slot) c v }));
+      answer = v .answer;
+    }
+
+abbrev pub entryOf : ℕ → ℕ → Option Open → Model
+entryOf peer request-id none = []
+entryOf peer request-id (some o) = record { peer = peer; request-id = request-id; state = o } ∷ []
+
+-- The model without what is open under this peer and id.
+abbrev pub without : ℕ → ℕ → Model → Model
+without peer request-id b = keep (λ (e : Entry). not (isAt peer request-id e)) b
+
+pub record Arrived : Type 0 where
+  pub model : Model
+  pub answer : Reply Event
+
+abbrev pub arrived : ℕ → ℕ → Model → Judged → Arrived
+arrived peer request-id b j = record { model = entryOf peer request-id (j .left) ++ without peer request-id b; answer = j .answer }
+
+-- A chunk that arrives. "It stays too at 7, when its console has nothing open and n others have, and at 6, when its id is not open there
+-- and four others are. Else its transfer, opened if need be, takes the call's time, and **Transfer**'s questions are put to the book".
+unfoldable pub arrives : ℕ → Model → ℕ → Chunk → ℕ → Arrived
+arrives n b peer c now-ms =
+    cond (not (findsRecord n peer b)) (record { model = b; answer = refused 7 0 })
+    (cond (hasFour peer (c .request-id) b) (record { model = b; answer = refused 6 0 })
+    (arrived peer (c .request-id) b (judged (touchedAt (find peer (c .request-id) b) now-ms) c)))
+
+-- What a call means for the model. `nothing`: a call that is refused ahead of **Table**'s questions, and one that changes nothing.
+pub data Act : Type 0 where
+  arrive : ℕ → Chunk → ℕ → Act
+  cancel : ℕ → ℕ → Act
+  drop : ℕ → Act
+  poll : ℕ → Act
+  nothing : Act
+
+-- "Cancel closes the transfer it names, drop all of its console, poll those with now − time at least 3,000 (0 if the clock went back).
+-- Refused, they change nothing; the other calls never do."
+abbrev pub after : ℕ → Model → Act → Model
+after n b (arrive peer c now-ms) = arrives n b peer c now-ms .model
+after n b (cancel peer request-id) = without peer request-id b
+after n b (drop peer) = keep (λ (e : Entry). not (isOf peer e)) b
+after n b (poll now-ms) = keep (λ (e : Entry). not (isLate now-ms e)) b
+after n b nothing = b
+
+abbrev pub afterAll : ℕ → Model → List Act → Model
+afterAll n b [] = b
+afterAll n b (a ∷ acts) = afterAll n (after n b a) acts
