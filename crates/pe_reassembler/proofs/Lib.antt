@@ -5,3 +5,4 @@ pub mod CallsSums
 pub mod CallsFresh
 pub mod PollLaws
 pub mod FeedLaws
+pub mod OpenLaws

@@ -1,6 +1,7 @@
 // From reassembler.rs, Reassembler: the calls over lent memory.
 pub mod calls;
 pub mod feed;
+pub mod open;
 pub mod poll;
 pub mod shape;
 mod table;
