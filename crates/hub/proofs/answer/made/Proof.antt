@@ -1,0 +1,40 @@
+use borrow.Author.Needs.{needs}
+use Rattle.hub.proofs.answer.made.Statement.{statement}
+use Rattle.hub.proofs.answer.made.Tie as tie
+use Rattle.pe_reassembler.specs.declared.calls.Made.{Made}
+use Rattle.pe_reassembler.specs.Calls.{madeTold}
+use Rattle.hub.specs.declared.answer.Answer.{Answer}
+use Rattle.hub.specs.Answers.{answerOf}
+use Rattle.hub.proofs.AnswerLaws.{matched}
+
+abbrev tells : Made → Answer
+tells a = answerOf (madeTold a)
+
+-- src/answer.rt:100:23
+enum-told : tie.Need-enum-told
+enum-told c = search needs
+
+-- src/answer.rt:100:23
+counted-requires : tie.Need-counted-requires
+counted-requires c κs = search needs
+
+-- src/answer.rt:101:23
+enum-known-a : tie.Need-enum-known-a
+enum-known-a c = search needs
+
+-- src/answer.rt:101:29
+pe-refused-requires : tie.Need-pe-refused-requires
+pe-refused-requires c κs = search needs
+
+-- src/answer.rt:96:1
+returns : tie.Need-returns
+returns c = matched tells (c .before .enum-told .given .1) (c .counted .ensures)
+
+-- src/answer.rt:96:1
+returns-2 : tie.Need-returns-2
+returns-2 c = matched tells (c .before .before .a .given .1) (c .pe-refused .ensures)
+
+pub made-spec : {M : Type 1} → statement M
+made-spec =
+    tie.close
+    (tie.spec enum-told counted-requires enum-known-a pe-refused-requires returns returns-2)

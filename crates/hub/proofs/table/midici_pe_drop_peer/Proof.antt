@@ -1,0 +1,24 @@
+use borrow.Author.Needs.{needs}
+use Rattle.hub.proofs.table.midici_pe_drop_peer.Statement.{statement}
+use Rattle.hub.proofs.table.midici_pe_drop_peer.Tie as tie
+use Rattle.hub.proofs.LeftLaws.{drops}
+
+-- src/table.rt:160:20
+drop-peer-requires : tie.Need-drop-peer-requires
+drop-peer-requires c κs = search needs
+
+-- src/table.rt:160:5
+number-counted-requires : tie.Need-number-counted-requires
+number-counted-requires c κs = search needs
+
+-- src/table.rt:143:1
+same-length : tie.Need-same-length
+same-length c = search needs
+
+-- src/table.rt:143:1
+returns : tie.Need-returns
+returns c = drops _ _ _ _ (c .number-counted .ensures) (c .before .before .before .drop-peer .ensures)
+
+pub midici-pe-drop-peer-spec : {M : Type 1} → statement M
+midici-pe-drop-peer-spec =
+    tie.close (tie.spec drop-peer-requires number-counted-requires same-length returns)

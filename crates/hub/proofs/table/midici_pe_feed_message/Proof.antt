@@ -1,0 +1,54 @@
+use borrow.Author.Needs.{needs}
+use Rattle.hub.proofs.table.midici_pe_feed_message.Statement.{statement}
+use Rattle.hub.proofs.table.midici_pe_feed_message.Tie as tie
+use Rattle.hub.proofs.LeftLaws.{feeds}
+
+-- src/table.rt:107:9
+feed-message-requires : tie.Need-feed-message-requires
+feed-message-requires c κs = search needs
+
+-- src/table.rt:107:5
+fed-requires : tie.Need-fed-requires
+fed-requires c κs = search needs
+
+-- src/table.rt:84:1
+same-length : tie.Need-same-length
+same-length c = search needs
+
+-- src/table.rt:84:1
+same-length-2 : tie.Need-same-length-2
+same-length-2 c = search needs
+
+-- src/table.rt:84:1
+same-length-3 : tie.Need-same-length-3
+same-length-3 c = search needs
+
+-- src/table.rt:84:1
+same-length-4 : tie.Need-same-length-4
+same-length-4 c = search needs
+
+-- src/table.rt:84:1
+same-length-5 : tie.Need-same-length-5
+same-length-5 c = search needs
+
+-- src/table.rt:84:1
+same-length-6 : tie.Need-same-length-6
+same-length-6 c = search needs
+
+-- src/table.rt:84:1
+returns : tie.Need-returns
+returns c = feeds _ _ _ _ (c .fed .ensures) (c .before .before .before .before .before .before .before .before .before .before .before .before .before .feed-message .ensures)
+
+pub midici-pe-feed-message-spec : {M : Type 1} → statement M
+midici-pe-feed-message-spec =
+    tie.close
+    (tie.spec
+    feed-message-requires
+    fed-requires
+    same-length
+    same-length-2
+    same-length-3
+    same-length-4
+    same-length-5
+    same-length-6
+    returns)

@@ -1,0 +1,28 @@
+use borrow.Author.Needs.{needs}
+use Rattle.hub.proofs.table.midici_pe_new.Statement.{statement}
+use Rattle.hub.proofs.table.midici_pe_new.Tie as tie
+use Rattle.hub.proofs.LeftLaws.{makes}
+
+-- src/table.rt:41:10
+new-requires : tie.Need-new-requires
+new-requires c κs = search needs
+
+-- src/table.rt:41:5
+made-requires : tie.Need-made-requires
+made-requires c κs = search needs
+
+-- src/table.rt:22:1
+same-length : tie.Need-same-length
+same-length c = search needs
+
+-- src/table.rt:22:1
+same-length-2 : tie.Need-same-length-2
+same-length-2 c = search needs
+
+-- src/table.rt:22:1
+returns : tie.Need-returns
+returns c = makes _ _ _ _ _ (c .made .ensures) (c .before .before .before .before .before .new .ensures)
+
+pub midici-pe-new-spec : {M : Type 1} → statement M
+midici-pe-new-spec =
+    tie.close (tie.spec new-requires made-requires same-length same-length-2 returns)

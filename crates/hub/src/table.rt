@@ -1,0 +1,222 @@
+// The reassembler's calls. A shape is four numbers, and the memory of a table is lent with each call.
+use crate::answer::Answer;
+use crate::answer::FedAnswer;
+use crate::answer::StatsAnswer;
+use crate::answer::cancelled;
+use crate::answer::fed;
+use crate::answer::made;
+use crate::answer::number_counted;
+use crate::answer::stats;
+use pe_reassembler::calls;
+use pe_reassembler::feed;
+use pe_reassembler::poll;
+use pe_reassembler::shape::Shape;
+ghost use mathlib.Core.Path.{_≡_};
+ghost use Rattle.pe_reassembler.specs.Calls.{newCall, cancelCall, dropCall, statsCall, reservedCall};
+ghost use Rattle.pe_reassembler.specs.Feed.{memory, feedCall, messageCall};
+ghost use Rattle.pe_reassembler.specs.Poll.{pollCall};
+ghost use Rattle.hub.specs.Answers.{answerOf, statsAnswerOf};
+ghost use Rattle.hub.specs.Table.{shapeOf, madeLeft, madeOf, numbersLeft, cancelledOf, droppedOf, fedLeft, fedOf, polledLeft, polledOf};
+
+// Makes a table in the lent memory; the rooms keep their bytes.
+#[no_mangle]
+pub extern "C" fn midici_pe_new(
+    max_peers: usize,
+    header_bytes: usize,
+    tx_bytes: usize,
+    fragment_records: usize,
+    numbers: &mut [u64],
+    index: &mut [u64],
+    headers: &[u8],
+    arenas: &[u8],
+) -> Answer
+    ensures { λ r. ⌜ madeLeft r (now (numbers .exit)) (now (index .exit)) ≡ madeOf (newCall (shapeOf «max_peers» «header_bytes» «tx_bytes» «fragment_records») (now (numbers .entry)) (now (index .entry)) (now (headers .entry)) (now (arenas .entry))) ⌝ }
+{
+    let shape = Shape {
+        max_peers,
+        header_bytes,
+        tx_bytes,
+        fragment_records,
+    };
+    made(calls::new(shape, numbers, index, headers, arenas))
+}
+
+// Feeds a chunk of a peer; a whole list goes into the two outputs.
+#[no_mangle]
+pub extern "C" fn midici_pe_feed(
+    max_peers: usize,
+    header_bytes: usize,
+    tx_bytes: usize,
+    fragment_records: usize,
+    numbers: &mut [u64],
+    index: &mut [u64],
+    headers: &mut [u8],
+    arenas: &mut [u8],
+    peer: u32,
+    raw_chunk: &[u8],
+    now_ms: u64,
+    out_header: &mut [u8],
+    out_body: &mut [u8],
+) -> FedAnswer
+    ensures { λ r. ⌜ fedLeft r (memory (now (numbers .exit)) (now (index .exit)) (now (headers .exit)) (now (arenas .exit)) (now («out_header» .exit)) (now («out_body» .exit))) ≡ fedOf (feedCall (shapeOf «max_peers» «header_bytes» «tx_bytes» «fragment_records») (memory (now (numbers .entry)) (now (index .entry)) (now (headers .entry)) (now (arenas .entry)) (now («out_header» .entry)) (now («out_body» .entry))) peer (now («raw_chunk» .entry)) «now_ms») ⌝ }
+{
+    let shape = Shape {
+        max_peers,
+        header_bytes,
+        tx_bytes,
+        fragment_records,
+    };
+    fed(feed::feed(
+        shape,
+        numbers,
+        index,
+        headers,
+        arenas,
+        peer,
+        raw_chunk,
+        now_ms,
+        out_header,
+        out_body,
+    ))
+}
+
+// Feeds the chunk of a whole CI message under its source.
+#[no_mangle]
+pub extern "C" fn midici_pe_feed_message(
+    max_peers: usize,
+    header_bytes: usize,
+    tx_bytes: usize,
+    fragment_records: usize,
+    numbers: &mut [u64],
+    index: &mut [u64],
+    headers: &mut [u8],
+    arenas: &mut [u8],
+    body: &[u8],
+    now_ms: u64,
+    out_header: &mut [u8],
+    out_body: &mut [u8],
+) -> FedAnswer
+    ensures { λ r. ⌜ fedLeft r (memory (now (numbers .exit)) (now (index .exit)) (now (headers .exit)) (now (arenas .exit)) (now («out_header» .exit)) (now («out_body» .exit))) ≡ fedOf (messageCall (shapeOf «max_peers» «header_bytes» «tx_bytes» «fragment_records») (memory (now (numbers .entry)) (now (index .entry)) (now (headers .entry)) (now (arenas .entry)) (now («out_header» .entry)) (now («out_body» .entry))) (now (body .entry)) «now_ms») ⌝ }
+{
+    let shape = Shape {
+        max_peers,
+        header_bytes,
+        tx_bytes,
+        fragment_records,
+    };
+    fed(feed::feed_message(
+        shape,
+        numbers,
+        index,
+        headers,
+        arenas,
+        body,
+        now_ms,
+        out_header,
+        out_body,
+    ))
+}
+
+// Closes the slot of a peer that is open with a request id: 1 where there was one, else 0.
+#[no_mangle]
+pub extern "C" fn midici_pe_cancel(
+    max_peers: usize,
+    header_bytes: usize,
+    tx_bytes: usize,
+    fragment_records: usize,
+    numbers: &mut [u64],
+    peer: u32,
+    request_id: u8,
+) -> Answer
+    ensures { λ r. ⌜ numbersLeft r (now (numbers .exit)) ≡ cancelledOf (cancelCall (shapeOf «max_peers» «header_bytes» «tx_bytes» «fragment_records») (now (numbers .entry)) peer «request_id») ⌝ }
+{
+    let shape = Shape {
+        max_peers,
+        header_bytes,
+        tx_bytes,
+        fragment_records,
+    };
+    cancelled(calls::cancel(shape, numbers, peer, request_id))
+}
+
+// Closes all slots of a peer and unbinds its record: how many there were.
+#[no_mangle]
+pub extern "C" fn midici_pe_drop_peer(
+    max_peers: usize,
+    header_bytes: usize,
+    tx_bytes: usize,
+    fragment_records: usize,
+    numbers: &mut [u64],
+    peer: u32,
+) -> Answer
+    ensures { λ r. ⌜ numbersLeft r (now (numbers .exit)) ≡ droppedOf (dropCall (shapeOf «max_peers» «header_bytes» «tx_bytes» «fragment_records») (now (numbers .entry)) peer) ⌝ }
+{
+    let shape = Shape {
+        max_peers,
+        header_bytes,
+        tx_bytes,
+        fragment_records,
+    };
+    number_counted(calls::drop_peer(shape, numbers, peer))
+}
+
+// Closes each slot whose time is up, and lists its peer and request id: how many there are.
+#[no_mangle]
+pub extern "C" fn midici_pe_poll(
+    max_peers: usize,
+    header_bytes: usize,
+    tx_bytes: usize,
+    fragment_records: usize,
+    numbers: &mut [u64],
+    now_ms: u64,
+    out_peers: &mut [u64],
+    out_request_ids: &mut [u64],
+) -> Answer
+    ensures { λ r. ⌜ polledLeft r (now (numbers .exit)) (now («out_peers» .exit)) (now («out_request_ids» .exit)) ≡ polledOf (pollCall (shapeOf «max_peers» «header_bytes» «tx_bytes» «fragment_records») (now (numbers .entry)) «now_ms» (now («out_peers» .entry)) (now («out_request_ids» .entry))) ⌝ }
+{
+    let shape = Shape {
+        max_peers,
+        header_bytes,
+        tx_bytes,
+        fragment_records,
+    };
+    number_counted(poll::poll(shape, numbers, now_ms, out_peers, out_request_ids))
+}
+
+#[no_mangle]
+pub extern "C" fn midici_pe_memory_stats(
+    max_peers: usize,
+    header_bytes: usize,
+    tx_bytes: usize,
+    fragment_records: usize,
+    numbers: &[u64],
+) -> StatsAnswer
+    ensures { λ r. ⌜ r ≡ statsAnswerOf (statsCall (shapeOf «max_peers» «header_bytes» «tx_bytes» «fragment_records») (now (numbers .entry))) ⌝ }
+{
+    let shape = Shape {
+        max_peers,
+        header_bytes,
+        tx_bytes,
+        fragment_records,
+    };
+    stats(calls::memory_stats(shape, numbers))
+}
+
+// The bytes that the rooms of a table take.
+#[no_mangle]
+pub extern "C" fn midici_pe_reserved_bytes(
+    max_peers: usize,
+    header_bytes: usize,
+    tx_bytes: usize,
+    fragment_records: usize,
+) -> Answer
+    ensures { λ r. ⌜ r ≡ answerOf (reservedCall (shapeOf «max_peers» «header_bytes» «tx_bytes» «fragment_records»)) ⌝ }
+{
+    let shape = Shape {
+        max_peers,
+        header_bytes,
+        tx_bytes,
+        fragment_records,
+    };
+    number_counted(calls::reserved_bytes(shape))
+}
