@@ -1,4 +1,6 @@
 // Document 01's examples, run: what is asked, and the answer in decimal numbers, or r and the refusal's number.
+mod reassembler;
+
 use libc::STDOUT_FILENO;
 use midici_core::muid::Muid;
 use midici_core::muid::MuidRead;
@@ -197,4 +199,6 @@ fn main() {
     muid_reads(b"console 7F 7F 7F 7F:", &[0x7F, 0x7F, 0x7F, 0x7F]);
     mcoded7_reads(b"mcoded7 40 01:", &[0x40, 0x01]);
     counter_steps(b"counter 127:", 127);
+    reassembler::above_the_count();
+    reassembler::timeouts();
 }
