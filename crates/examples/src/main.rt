@@ -199,6 +199,5 @@ fn main() {
     muid_reads(b"console 7F 7F 7F 7F:", &[0x7F, 0x7F, 0x7F, 0x7F]);
     mcoded7_reads(b"mcoded7 40 01:", &[0x40, 0x01]);
     counter_steps(b"counter 127:", 127);
-    reassembler::above_the_count();
-    reassembler::timeouts();
+    reassembler::examples();
 }
