@@ -6,3 +6,9 @@ pub mod CallsFresh
 pub mod PollLaws
 pub mod FeedLaws
 pub mod OpenLaws
+pub mod PlaceLaws
+pub mod Effects
+pub mod EffectsClose
+pub mod EffectsNew
+pub mod SlotLengths
+pub mod SoundLaws

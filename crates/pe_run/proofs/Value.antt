@@ -1,7 +1,7 @@
 -- What a table's lent memory stands for: records in place, each with its four cells, and the calls on that value.
 -- Assumes nothing.
 use Prim.Native.Nat.{ℕ, zero, suc, _+_, _-_}
-use mathlib.Core.Bool.{Bool, true, false, cond, not, _&&_}
+use mathlib.Core.Bool.{Bool, true, false, cond, not, _&&_, _||_}
 use mathlib.Core.List.{List, [], _∷_, _++_, map}
 use mathlib.Core.Option.{Option, none, some}
 use lib.Dec.{leb, eqb}
@@ -12,6 +12,7 @@ use Rattle.pe_slot.specs.Slot.{Event}
 use Rattle.pe_slot.specs.Memory.{slotOf, contents}
 use Rattle.pe_reassembler.specs.Table.{peerAt, isBound, orElse}
 use Rattle.pe_reassembler.specs.Feed.{wordsPart, roomPart, nextTick}
+use Rattle.pe_run.specs.Lists.{tally}
 use Rattle.pe_run.specs.Model.{Open, Entry, Model, isNone, entryOf, touchedAt, Judged, judged}
 use Rattle.pe_run.specs.Run.{Table}
 
@@ -186,3 +187,18 @@ pollRec now-ms r = withCells r (map (pollCell now-ms) (r .cells))
 
 unfoldable pub polled : Value → ℕ → Value
 polled v now-ms = withRecs v (map (pollRec now-ms) (v .recs))
+
+-- ---- what the calls that close answer
+abbrev pub some-cell : (Cell → Bool) → List Cell → Bool
+some-cell p [] = false
+some-cell p (c ∷ cs) = p c || some-cell p cs
+
+-- was the id open in the peer's own record?
+abbrev pub cancels : ℕ → ℕ → List Rec → Bool
+cancels peer id [] = false
+cancels peer id (r ∷ recs) = cond (isOwn peer r) (some-cell (hasId id) (r .cells)) (cancels peer id recs)
+
+-- how many were open there?
+abbrev pub drops : ℕ → List Rec → ℕ
+drops peer [] = 0
+drops peer (r ∷ recs) = cond (isOwn peer r) (tally (λ (c : Cell). not (isFree c)) (r .cells)) (drops peer recs)

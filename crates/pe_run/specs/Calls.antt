@@ -145,14 +145,14 @@ abbrev pub shownOf : Entry → Shown
 shownOf e = record { peer = e .peer; request-id = e .request-id; held = length (e .state .slot .pieces) }
 
 -- The two answers whose order is not the model's: rows in any order, each once, and the columns with them.
-pub record TimedOut (n : ℕ) (b : Model) (now-ms : ℕ) (out-peers out-ids : List ℕ) (a : Answer) : Type 0 where
+pub record TimedOut (b : Model) (now-ms : ℕ) (out-peers out-ids : List ℕ) (a : Answer) : Type 0 where
   pub rows : List Key
   pub each-once : Perm rows (map keyOf (keep (isLate now-ms) b))
   pub told : a ≡ timed-out (granted (length rows))
       (map (λ (k : Key). k .peer) rows ++ drop (length rows) out-peers)
       (map (λ (k : Key). k .request-id) rows ++ drop (length rows) out-ids)
 
-pub record Shows (n : ℕ) (b : Model) (out-peers out-ids out-held : List ℕ) (a : Answer) : Type 0 where
+pub record Shows (b : Model) (out-peers out-ids out-held : List ℕ) (a : Answer) : Type 0 where
   pub rows : List Shown
   pub each-once : Perm rows (map shownOf b)
   pub told : a ≡ listed (granted (length rows))
@@ -167,12 +167,12 @@ Right n b (feed-message message now-ms out-header out-body) a = a ≡ arrivalAns
 Right n b (cancel peer request-id) a = a ≡ closed (isMuid peer else 28 then granted (not (isNone (find peer request-id b))))
 Right n b (drop-peer peer) a = a ≡ counted (isMuid peer else 28 then granted (openOf peer b))
 Right n b (poll now-ms out-peers out-ids) a =
-    cond (hasPlaces n out-peers && hasPlaces n out-ids) (TimedOut n b now-ms out-peers out-ids a) (a ≡ timed-out (refused 30 0) out-peers out-ids)
+    cond (hasPlaces n out-peers && hasPlaces n out-ids) (TimedOut b now-ms out-peers out-ids a) (a ≡ timed-out (refused 30 0) out-peers out-ids)
 Right n b memory-stats a =
     a ≡ totals (granted (record { reserved-bytes = reservedFor n; active-bytes = min (bytesOpen b) 18446744073709551615; active-slots = length b }))
 Right n b reserved-bytes a = a ≡ counted (granted (reservedFor n))
 Right n b (open-list out-peers out-ids out-held) a =
-    cond (hasPlaces n out-peers && hasPlaces n out-ids && hasPlaces n out-held) (Shows n b out-peers out-ids out-held a) (a ≡ listed (refused 30 0) out-peers out-ids out-held)
+    cond (hasPlaces n out-peers && hasPlaces n out-ids && hasPlaces n out-held) (Shows b out-peers out-ids out-held a) (a ≡ listed (refused 30 0) out-peers out-ids out-held)
 
 -- Every answer, from one end of the run to the other.
 abbrev pub AllRight : ℕ → Model → List Call → List Answer → Type 0

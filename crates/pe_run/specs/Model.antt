@@ -118,7 +118,3 @@ after n b (cancel peer request-id) = without peer request-id b
 after n b (drop peer) = keep (λ (e : Entry). not (isOf peer e)) b
 after n b (poll now-ms) = keep (λ (e : Entry). not (isLate now-ms e)) b
 after n b nothing = b
-
-abbrev pub afterAll : ℕ → Model → List Act → Model
-afterAll n b [] = b
-afterAll n b (a ∷ acts) = afterAll n (after n b a) acts

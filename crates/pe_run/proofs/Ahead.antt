@@ -1,0 +1,131 @@
+-- The questions that are asked ahead of **Table**'s: of memory that is long enough, those of the calls and of the run are the same.
+-- Assumes nothing.
+use Prim.Native.Nat.{ℕ, _+_, _*_, _≤_}
+use mathlib.Core.Bool.{Bool, true, false, cond, _&&_}
+use mathlib.Core.List.{List, [], _++_, map}
+use mathlib.Core.Path.{_≡_, refl, subst}
+use native.Mathlib.Omega.{arith}
+use borrow.Author.Tests.{le-leb, leb-true}
+use lib.ListN.{length, drop}
+use Rattle.seven_bit.specs.Reply.{Reply, granted, refused, andThen}
+use Rattle.seven_bit.proofs.ReplyLaws.{asked, first-granted, same-grant}
+use Rattle.midici_core.specs.Message.{Message, readMessage}
+use Rattle.pe_frame.specs.Chunk.{Fields, readFields, chunkOf}
+use Rattle.pe_frame.proofs.RoundTrip.{read-in-range}
+use Rattle.pe_reassembler.specs.Table.{inRange, hasNumbers, hasRooms, isMuid}
+use Rattle.pe_reassembler.specs.Feed.{Fed, fed, atTable, chunkRead, hasAll, feedCall, messageRead, messageCall}
+use Rattle.pe_reassembler.specs.Poll.{Timeout, dueFrom, sorted, closeDue, polled, pollCall}
+use Rattle.pe_reassembler.specs.Open.{Shown, listed, openCall}
+use Rattle.pe_reassembler.proofs.TableLaws.{both-true}
+use Rattle.pe_run.specs.Calls.{Arrival, arriving, hasOutputs, fedArrival, messageArrival, hasPlaces}
+use Rattle.pe_run.specs.Demand.{LongEnough}
+use Rattle.pe_run.specs.Run.{Table, fullSize, lent}
+
+-- a chunk that arrives reaches the table; a refusal changes nothing
+abbrev pub reached : ℕ → Table → List ℕ → List ℕ → Reply Arrival → Fed
+reached n t out-header out-body (granted a) = atTable (fullSize n) (lent t out-header out-body) (a .peer) (a .chunk) (a .time)
+reached n t out-header out-body (refused number value) = fed (refused number value) (lent t out-header out-body)
+
+module _ (n : ℕ) (t : Table) (few : n ≤ 16) (long : LongEnough n t) where
+  -- ---- question 30
+  pub numbers-asked : hasNumbers (fullSize n) (t .numbers) ≡ true
+  unfolding hasNumbers inRange
+  numbers-asked = rw (le-leb _ _ few, le-leb _ _ (long .numbers))
+
+  pub rooms-asked : hasRooms (fullSize n) (t .numbers) (t .index) (t .headers) (t .arenas) ≡ true
+  unfolding hasRooms
+  rooms-asked =
+      let i : 4 * n * 2048 ≤ length (t .index) = omega (arith, long .index) in
+      let h : 4 * n * 4096 ≤ length (t .headers) = omega (arith, long .headers) in
+      let a : 4 * n * 65536 ≤ length (t .arenas) = omega (arith, long .arenas) in
+      rw (numbers-asked, le-leb _ _ i, le-leb _ _ h, le-leb _ _ a)
+
+  pub all-asked : (out-header out-body : List ℕ) → hasAll (fullSize n) (lent t out-header out-body) ≡ hasOutputs out-header out-body
+  unfolding hasAll
+  all-asked out-header out-body = rw rooms-asked
+
+  -- ---- the two feeds
+  module _ (out-header out-body : List ℕ) (now-ms : ℕ) where
+    read-ahead : (r : Reply Fields) (peer : ℕ) (bytes : List ℕ)
+        → chunkRead r (fullSize n) (lent t out-header out-body) peer bytes now-ms
+        ≡ reached n t out-header out-body (andThen r (λ (f : Fields). granted (record { peer = peer; bytes = bytes; chunk = chunkOf bytes f; time = now-ms })))
+    read-ahead (granted f) peer bytes = refl
+    read-ahead (refused number value) peer bytes = refl
+
+    pub feed-ahead : (peer : ℕ) (chunk : List ℕ)
+        → feedCall (fullSize n) (lent t out-header out-body) peer chunk now-ms ≡ reached n t out-header out-body (fedArrival peer chunk now-ms out-header out-body)
+    unfolding feedCall fedArrival
+    feed-ahead peer chunk = rw (all-asked out-header out-body) (go (hasOutputs out-header out-body) (isMuid peer))
+      where
+        go : (outputs muid : Bool)
+            → cond outputs (cond muid (chunkRead (readFields chunk) (fullSize n) (lent t out-header out-body) peer chunk now-ms) (fed (refused 28 0) (lent t out-header out-body)))
+            (fed (refused 30 0) (lent t out-header out-body))
+            ≡ reached n t out-header out-body (cond outputs (cond muid (arriving peer chunk now-ms) (refused 28 0)) (refused 30 0))
+        go true true = read-ahead (readFields chunk) peer chunk
+        go true false = refl
+        go false muid = refl
+
+    pub message-ahead : (message : List ℕ)
+        → messageCall (fullSize n) (lent t out-header out-body) message now-ms ≡ reached n t out-header out-body (messageArrival message now-ms out-header out-body)
+    unfolding messageCall messageArrival
+    message-ahead message = rw (all-asked out-header out-body) (go (hasOutputs out-header out-body) (readMessage message))
+      where
+        go : (outputs : Bool) (r : Reply Message)
+            → cond outputs (messageRead r (fullSize n) (lent t out-header out-body) message now-ms) (fed (refused 30 0) (lent t out-header out-body))
+            ≡ reached n t out-header out-body (cond outputs (andThen r (λ (m : Message). arriving (m .header .source) (drop 13 message) now-ms)) (refused 30 0))
+        go true (granted m) = read-ahead (readFields (drop 13 message)) (m .header .source) (drop 13 message)
+        go true (refused number value) = refl
+        go false r = refl
+
+  -- ---- the other calls
+  pub poll-ahead : (now-ms : ℕ) (out-peers out-ids : List ℕ)
+      → pollCall (fullSize n) (t .numbers) now-ms out-peers out-ids
+      ≡ cond (hasPlaces n out-peers && hasPlaces n out-ids)
+      (let due : List Timeout = sorted [] (dueFrom (t .numbers) now-ms 0 0 (4 * n)) in
+      polled (granted (length due)) (closeDue now-ms 0 0 (4 * n) (t .numbers))
+      (map (λ (r : Timeout). r .peer) due ++ drop (length due) out-peers)
+      (map (λ (r : Timeout). r .request-id) due ++ drop (length due) out-ids))
+      (polled (refused 30 0) (t .numbers) out-peers out-ids)
+  unfolding pollCall
+  poll-ahead now-ms out-peers out-ids = rw numbers-asked
+
+  pub list-ahead : (rows : List Shown) (out-peers out-ids out-held : List ℕ)
+      → openCall (fullSize n) (t .numbers) rows out-peers out-ids out-held
+      ≡ cond (hasPlaces n out-peers && hasPlaces n out-ids && hasPlaces n out-held)
+      (listed (granted (length rows))
+      (map (λ (r : Shown). r .peer) rows ++ drop (length rows) out-peers)
+      (map (λ (r : Shown). r .request-id) rows ++ drop (length rows) out-ids)
+      (map (λ (r : Shown). r .held) rows ++ drop (length rows) out-held))
+      (listed (refused 30 0) out-peers out-ids out-held)
+  unfolding openCall
+  list-ahead rows out-peers out-ids out-held = rw numbers-asked
+
+-- ---- what arrives: its numbers are small, and both outputs are long enough
+pub record Small (out-header out-body : List ℕ) (a : Arrival) : Type 0 where
+  pub header-room : 4096 ≤ length out-header
+  pub body-room : 65536 ≤ length out-body
+  pub number : a .chunk .chunk-num ≤ 16383
+  pub property : length (a .chunk .property) ≤ 16383
+
+module _ (now-ms : ℕ) (out-header out-body : List ℕ) (a : Arrival) where
+  arriving-small : (peer : ℕ) (bytes : List ℕ) → hasOutputs out-header out-body ≡ true → arriving peer bytes now-ms ≡ granted a → Small out-header out-body a
+  arriving-small peer bytes o q =
+      let f = first-granted (readFields bytes) _ a q in
+      let r = read-in-range bytes (f .0) (f .1) in
+      let e = both-true _ _ o in
+      subst (Small out-header out-body) (same-grant _ _ a refl (f .2))
+      (record { header-room = leb-true _ _ (e .0); body-room = leb-true _ _ (e .1); number = r .number; property = r .property-len })
+
+  pub fed-small : (peer : ℕ) (chunk : List ℕ) → fedArrival peer chunk now-ms out-header out-body ≡ granted a → Small out-header out-body a
+  unfolding fedArrival
+  fed-small peer chunk q =
+      let b = asked (hasOutputs out-header out-body) 30 _ a q in
+      let m = asked (isMuid peer) 28 _ a (b .1) in
+      arriving-small peer chunk (b .0) (m .1)
+
+  pub message-small : (message : List ℕ) → messageArrival message now-ms out-header out-body ≡ granted a → Small out-header out-body a
+  unfolding messageArrival
+  message-small message q =
+      let b = asked (hasOutputs out-header out-body) 30 _ a q in
+      let m = first-granted (readMessage message) _ a (b .1) in
+      arriving-small (m .0 .header .source) (drop 13 message) (b .0) (m .2)

@@ -1,0 +1,109 @@
+-- What is open under a peer and request id, through what happens to the model.
+-- Assumes nothing.
+use Prim.Native.Nat.{ℕ, _-_, _≤_}
+use mathlib.Core.Bool.{Bool, true, false, cond, not, _&&_}
+use mathlib.Core.List.{List, [], _∷_, _++_}
+use mathlib.Core.Logic.{_⊎_, inl, inr}
+use mathlib.Core.Option.{Option, none, some}
+use mathlib.Core.Path.{_≡_, refl, sym, ap, _∙_}
+use native.Mathlib.Omega.{arith}
+use borrow.Author.Tests.{eqb-true, ne-eqb, lt-leb}
+use lib.Dec.{leb, eqb}
+use Rattle.seven_bit.specs.Reply.{refused}
+use Rattle.seven_bit.proofs.ReplyLaws.{both}
+use Rattle.pe_frame.specs.Chunk.{Chunk}
+use Rattle.pe_run.specs.Lists.{keep}
+use Rattle.pe_run.specs.Model.{Open, Entry, Model, isAt, isOf, isLate, find, openOf, findsRecord, hasFour, touchedAt, judged, entryOf, without, arrived, arrives, Act, arrive, cancel, drop, poll, nothing, after}
+use Rattle.pe_run.specs.Demand.{Room, Spared}
+use Rattle.pe_run.proofs.ListLaws.{eqb-self, eqb-sym, never, and-left, and-right}
+
+-- ---- finding
+find-keep : (test : Entry → Bool) (peer request-id : ℕ) (b : Model) (o : Open) → ((e : Entry) → isAt peer request-id e ≡ true → e .state ≡ o → test e ≡ true)
+    → find peer request-id b ≡ some o → find peer request-id (keep test b) ≡ some o
+find-keep test peer request-id [] o h q = q
+find-keep test peer request-id (e ∷ b) o h q = go (both (isAt peer request-id e)) (both (test e)) (find-keep test peer request-id b o h)
+  where
+    go : (isAt peer request-id e ≡ true) ⊎ (isAt peer request-id e ≡ false) → (test e ≡ true) ⊎ (test e ≡ false)
+        → (find peer request-id b ≡ some o → find peer request-id (keep test b) ≡ some o) → find peer request-id (keep test (e ∷ b)) ≡ some o
+    go (inl a) (inl k) r = rw (k, a) (rw a at q)
+    go (inl a) (inr k) r =
+        let w : some (e .state) ≡ some o = rw a at q in
+        let z : e .state ≡ o = cc in
+        never (sym (h e a z) ∙ k)
+    go (inr a) (inl k) r = rw (k, a) (r (rw a at q))
+    go (inr a) (inr k) r = rw k (r (rw a at q))
+
+find-tally : (peer request-id : ℕ) (b : Model) (o : Open) → find peer request-id b ≡ some o → 1 ≤ openOf peer b
+find-tally peer request-id [] o q = absurd (let z : _≡_ {A = ℕ} 0 1 = cc in omega arith)
+find-tally peer request-id (e ∷ b) o q = go (both (eqb peer (e .peer))) (find-tally peer request-id b o)
+  where
+    go : (eqb peer (e .peer) ≡ true) ⊎ (eqb peer (e .peer) ≡ false) → (find peer request-id b ≡ some o → 1 ≤ openOf peer b) → 1 ≤ openOf peer (e ∷ b)
+    go (inl a) r = rw a (omega arith)
+    go (inr a) r = rw a (r (rw a at q))
+
+-- ---- an arrival at what is open, and one that opens
+pub arrive-open : (n peer : ℕ) (b : Model) (o : Open) (c : Chunk) (now-ms : ℕ) → find peer (c .request-id) b ≡ some o
+    → arrives n b peer c now-ms ≡ arrived peer (c .request-id) b (judged (touchedAt (some o) now-ms) c)
+unfolding arrives findsRecord hasFour
+arrive-open n peer b o c now-ms q = rw (ne-eqb (openOf peer b) 0 (omega (arith, find-tally peer (c .request-id) b o q)), q) refl
+
+pub arrive-new : (n peer : ℕ) (b : Model) (c : Chunk) (now-ms : ℕ) → Room n peer (c .request-id) b
+    → arrives n b peer c now-ms ≡ arrived peer (c .request-id) b (judged (touchedAt none now-ms) c)
+unfolding arrives hasFour
+arrive-new n peer b c now-ms r = rw (r .record-found, r .not-open, lt-leb 4 (openOf peer b) (r .fewer)) refl
+
+-- what stays open is found
+pub find-arrived : (peer request-id : ℕ) (b : Model) (o : Open) → find peer request-id (entryOf peer request-id (some o) ++ without peer request-id b) ≡ some o
+find-arrived peer request-id b o = rw (eqb-self peer, eqb-self request-id)
+
+-- ---- what leaves another peer or request id open
+other-key : (p i q j : ℕ) (e : Entry) → (eqb p q && eqb i j) ≡ false → isAt p i e ≡ true → not (isAt q j e) ≡ true
+other-key p i q j e h k =
+    rw (
+      ← eqb-true p (e .peer) (and-left (eqb p (e .peer)) (eqb i (e .request-id)) k),
+      ← eqb-true i (e .request-id) (and-right (eqb p (e .peer)) (eqb i (e .request-id)) k),
+      eqb-sym q p,
+      eqb-sym j i,
+      h,
+    )
+
+-- Is the act an arrival under this peer and request id?
+abbrev pub isArrival : ℕ → ℕ → Act → Bool
+isArrival peer request-id (arrive q c now-ms) = eqb peer q && eqb request-id (c .request-id)
+isArrival peer request-id (cancel q j) = false
+isArrival peer request-id (drop q) = false
+isArrival peer request-id (poll now-ms) = false
+isArrival peer request-id nothing = false
+
+module _ (p i : ℕ) (b : Model) (o : Open) (f : find p i b ≡ some o) where
+  find-without : (q j : ℕ) → (eqb p q && eqb i j) ≡ false → find p i (without q j b) ≡ some o
+  find-without q j h = find-keep (λ (e : Entry). not (isAt q j e)) p i b o (λ e k w. other-key p i q j e h k) f
+
+  find-done : (q j : ℕ) (left : Option Open) → (eqb p q && eqb i j) ≡ false → find p i (entryOf q j left ++ without q j b) ≡ some o
+  find-done q j none h = find-without q j h
+  find-done q j (some x) h = rw h (find-without q j h)
+
+  find-arrives : (n q : ℕ) (c : Chunk) (now-ms : ℕ) → (eqb p q && eqb i (c .request-id)) ≡ false → find p i (arrives n b q c now-ms .model) ≡ some o
+  unfolding arrives
+  find-arrives n q c now-ms h = go (not (findsRecord n q b)) (hasFour q (c .request-id) b)
+    where
+      go : (u v : Bool) → find p i (cond u (record { model = b; answer = refused 7 0 }) (cond v (record { model = b; answer = refused 6 0 })
+          (arrived q (c .request-id) b (judged (touchedAt (find q (c .request-id) b) now-ms) c))) .model) ≡ some o
+      go true v = f
+      go false true = f
+      go false false = find-done q (c .request-id) (judged (touchedAt (find q (c .request-id) b) now-ms) c .left) h
+
+  -- Any other act leaves it open, and what is spared then is spared now.
+  pub find-after : (n : ℕ) (a : Act) (acts : List Act) → isArrival p i a ≡ false → Spared p i (o .time) (a ∷ acts)
+      → (find p i (after n b a) ≡ some o) × Spared p i (o .time) acts
+  find-after n (arrive q c now-ms) acts h s = (find-arrives n q c now-ms h, rw h at s)
+  find-after n (cancel q j) acts h s = (find-without q j (s .0), s .1)
+  find-after n (drop q) acts h s = (find-keep (λ (e : Entry). not (isOf q e)) p i b o (λ e k w. away e k) f, s .1)
+    where
+      away : (e : Entry) → isAt p i e ≡ true → not (eqb q (e .peer)) ≡ true
+      away e k = rw (← eqb-true p (e .peer) (and-left (eqb p (e .peer)) (eqb i (e .request-id)) k), eqb-sym q p, s .0)
+  find-after n (poll now-ms) acts h s = (find-keep (λ (e : Entry). not (isLate now-ms e)) p i b o (λ e k w. soon e w) f, s .1)
+    where
+      soon : (e : Entry) → e .state ≡ o → not (leb 3000 (now-ms - e .state .time)) ≡ true
+      soon e w = rw (ap (λ (x : Open). x .time) w, lt-leb 3000 (now-ms - o .time) (s .0))
+  find-after n nothing acts h s = (f, s)
