@@ -1,4 +1,6 @@
 pub mod RecordLaws
+pub mod MetaLaws
+pub mod Turn
 pub mod OrderLaws
 pub mod OrderHeldLaws
 pub mod OrderJoinLaws

@@ -1,6 +1,6 @@
 -- What the private passes over a slot's records say.
 -- Assumes nothing.
-use Prim.Native.Nat.{ℕ, _≤_}
+use Prim.Native.Nat.{ℕ, _+_, _≤_}
 use mathlib.Core.Bool.{Bool, true, false, cond}
 use mathlib.Core.List.{List, [], _∷_, _++_}
 use mathlib.Core.Option.{Option, none, some}
@@ -16,6 +16,18 @@ use Rattle.pe_slot.specs.Slot.{Piece, allHeld, bodyOf}
 unfoldable pub holds : ℕ → List ℕ → Bool
 holds n [] = false
 holds n (x ∷ xs) = cond (eqb (metaNumber x) n) true (holds n xs)
+
+-- The place of the first record with a chunk number, counted from i. `holds` asks whether there is one: the law `holds-placed` says so.
+unfoldable pub placeFrom : ℕ → ℕ → List ℕ → Option ℕ
+placeFrom i n [] = none
+placeFrom i n (x ∷ xs) = cond (eqb (metaNumber x) n) (some i) (placeFrom (i + 1) n xs)
+
+abbrev pub placeOf : ℕ → List ℕ → Option ℕ
+placeOf n records = placeFrom 0 n records
+
+abbrev pub isPlace : Option ℕ → Bool
+isPlace none = false
+isPlace (some i) = true
 
 -- One pass: where the records end, if they lie end to end from 0, and whether the number is among them.
 pub record Scanned (r : Pass) (records : List ℕ) (n : ℕ) : Type 0 where
