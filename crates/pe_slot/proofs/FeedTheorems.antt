@@ -24,7 +24,7 @@ use Rattle.pe_slot.specs.Steps.{judgedOf, grownBy}
 use Rattle.pe_slot.proofs.SlotMemory.{ends-grown}
 use Rattle.pe_slot.proofs.JudgeLaws.{verdictOf, judge-is, header-fits, piece-fits}
 use Rattle.pe_slot.proofs.FeedLaws.{contents-kept, contents-grown, length-kept, new-length}
-use Rattle.pe_slot.proofs.FeedDoor.{and-told}
+use Rattle.pe_slot.proofs.FeedAsked.{and-told}
 
 -- what a sound slot's memory is known to hold
 pub record Sound (H B R : ℕ) (t : TxSlot) (index : List ℕ) : Type 0 where

@@ -4,8 +4,7 @@ use Prim.Native.Nat.{ℕ, _+_, _≤_}
 use mathlib.Core.Bool.{Bool, true, false, cond, not, _&&_, _||_}
 use mathlib.Core.List.{List}
 use mathlib.Core.Option.{none, some}
-use mathlib.Core.Path.{_≡_, refl, sym, ap, _∙_}
-use native.Mathlib.Nat.{zero-add}
+use mathlib.Core.Path.{_≡_, refl, _∙_}
 use native.Mathlib.Omega.{arith}
 use lib.Dec.{leb, ltb, eqb}
 use lib.ListN.{length, take}
@@ -16,11 +15,12 @@ use Rattle.pe_wire.specs.declared.error.PeError.{PeError}
 use Rattle.pe_frame.specs.Chunk.{Chunk}
 use Rattle.pe_slot.specs.declared.slot.TxSlot.{TxSlot}
 use Rattle.pe_slot.specs.declared.slot.Judged.{Judged}
-use Rattle.pe_slot.specs.Slot.{Slot, Verdict, stays, closing, _otherwise_then_, storing, taking, isWhole, eventOf, held, bodyLen, eqList, isNone, sameHeader, headerFits, headerAgrees, newHeader, countAgrees, newCount, afterChunk, passed, judge}
+use Rattle.pe_slot.specs.Slot.{Slot, Verdict, stays, closing, _otherwise_then_, storing, taking, isWhole, eventOf, bodyLen, eqList, isNone, sameHeader, headerFits, headerAgrees, newHeader, countAgrees, newCount, afterChunk, passed, judge}
 use Rattle.pe_slot.specs.Memory.{piecesOf, contents, endsAt}
 use Rattle.pe_slot.specs.Records.{holds}
 use Rattle.pe_slot.specs.Steps.{judgedBy, judgedOf}
-use Rattle.pe_slot.proofs.SlotMemory.{holds-held, pieces-length, body-length}
+use Rattle.pe_slot.proofs.RecordLaws.{body-ends}
+use Rattle.pe_slot.proofs.SlotMemory.{holds-held, pieces-length}
 
 -- the verdict that was judged; t is the slot with the piece
 abbrev pub verdictOf : Bool → PeError → Bool → Bool → Bool → Slot → Verdict
@@ -80,7 +80,7 @@ unfolding judge judgedOf headerFits headerAgrees newHeader countAgrees newCount 
 judge-is t index header arena c l e b =
     let records = take (t .«index_len») index in
     let n : length (piecesOf records arena) ≡ t .«index_len» = pieces-length records arena ∙ length-take-le (t .«index_len») index l in
-    let m : bodyLen (piecesOf records arena) ≡ t .«property_bytes» = sym (zero-add _) ∙ body-length 0 records arena (t .«property_bytes») e b in
+    let m : bodyLen (piecesOf records arena) ≡ t .«property_bytes» = body-ends records arena (t .«property_bytes») e b in
     rw (
       none-known (eqb (t .«header_set») 0) (take (t .«header_len») header),
       same-known (eqb (t .«header_set») 0) (take (t .«header_len») header) (c .header),

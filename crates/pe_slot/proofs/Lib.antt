@@ -8,5 +8,5 @@ pub mod SlotHeaders
 pub mod SlotMemory
 pub mod JudgeLaws
 pub mod FeedLaws
-pub mod FeedDoor
+pub mod FeedAsked
 pub mod FeedTheorems

@@ -64,37 +64,38 @@ piece-put out arena at offset len h g =
     let e : offset + len - offset ≡ len = omega arith in
     rw e (fit-yes out at (part offset len arena) (rw (length-part offset len arena h) g))
 
--- ---- where records lie that end at n
-ends-parts : (at x : ℕ) (xs : List ℕ) (n : ℕ) → endsAt at (x ∷ xs) ≡ some n → (metaOffset x ≡ at) × (endsAt (at + metaLen x) xs ≡ some n)
+-- ---- where records lie that end at n: the first starts at the place, and the others lie behind it
+pub ends-cons : (at x : ℕ) (xs : List ℕ) (n : ℕ) → endsAt at (x ∷ xs) ≡ some n → (metaOffset x ≡ at) × (endsAt (at + metaLen x) xs ≡ some n)
 unfolding endsAt
-ends-parts at x xs n e = go (eqb (metaOffset x) at) refl e
+ends-cons at x xs n e = go (eqb (metaOffset x) at) refl e
   where
     go : (t : Bool) → eqb (metaOffset x) at ≡ t → cond t (endsAt (at + metaLen x) xs) none ≡ some n
         → (metaOffset x ≡ at) × (endsAt (at + metaLen x) xs ≡ some n)
     go true q h = (eqb-true _ _ q, h)
     go false q h = absurd (let z : _≡_ {A = ℕ} 0 1 = cc in omega arith)
 
-ends-le : (at : ℕ) (xs : List ℕ) (n : ℕ) → endsAt at xs ≡ some n → at ≤ n
+-- they end no earlier than they start
+pub ends-after : (at : ℕ) (xs : List ℕ) (n : ℕ) → endsAt at xs ≡ some n → at ≤ n
 unfolding endsAt
-ends-le at [] n e = let q : at ≡ n = cc in omega arith
-ends-le at (x ∷ xs) n e = let h = ends-le (at + metaLen x) xs n (ends-parts at x xs n e .1) in omega arith
+ends-after at [] n e = let q : at ≡ n = cc in omega arith
+ends-after at (x ∷ xs) n e = let h = ends-after (at + metaLen x) xs n (ends-cons at x xs n e .1) in omega arith
 
 -- each within the bytes
 pub ends-within : (at : ℕ) (xs : List ℕ) (n j : ℕ) → endsAt at xs ≡ some n → j < length xs → metaOffset (getD xs j 0) + metaLen (getD xs j 0) ≤ n
 ends-within at [] n j e l = absurd (omega arith)
 ends-within at (x ∷ xs) n zero e l =
-    let p = ends-parts at x xs n e in
-    let h = ends-le (at + metaLen x) xs n (p .1) in
+    let p = ends-cons at x xs n e in
+    let h = ends-after (at + metaLen x) xs n (p .1) in
     omega arith
-ends-within at (x ∷ xs) n (suc j) e l = ends-within (at + metaLen x) xs n j (ends-parts at x xs n e .1) (omega arith)
+ends-within at (x ∷ xs) n (suc j) e l = ends-within (at + metaLen x) xs n j (ends-cons at x xs n e .1) (omega arith)
 
 -- and all of them as long as the bytes are
 sum-ends : (at : ℕ) (xs arena : List ℕ) (n : ℕ) → endsAt at xs ≡ some n → n ≤ length arena → at + bodyLen (piecesOf xs arena) ≡ n
 unfolding endsAt bodyLen piecesOf pieceOf
 sum-ends at [] arena n e h = let q : at ≡ n = cc in omega arith
 sum-ends at (x ∷ xs) arena n e h =
-    let p = ends-parts at x xs n e in
-    let l = ends-le (at + metaLen x) xs n (p .1) in
+    let p = ends-cons at x xs n e in
+    let l = ends-after (at + metaLen x) xs n (p .1) in
     let k : length (part (metaOffset x) (metaLen x) arena) ≡ metaLen x = length-part (metaOffset x) (metaLen x) arena (omega arith) in
     let s = sum-ends (at + metaLen x) xs arena n (p .1) h in
     omega arith

@@ -1,21 +1,22 @@
 -- The laws of a slot's memory: records that lie end to end, the pieces that they name, and one record more.
 -- Assumes nothing.
-use Prim.Native.Nat.{ℕ, zero, suc, _+_, _-_, _*_, _<_, _≤_}
-use mathlib.Core.Bool.{Bool, true, false, cond}
-use mathlib.Core.List.{List, [], _∷_, _++_, map}
-use mathlib.Core.Option.{Option, none, some}
+use Prim.Native.Nat.{ℕ, _+_, _-_, _<_, _≤_}
+use mathlib.Core.Bool.{Bool, true, cond}
+use mathlib.Core.List.{List, [], _∷_, _++_}
+use mathlib.Core.Option.{some}
 use mathlib.Core.Path.{_≡_, refl, sym, ap, _∙_}
 use native.Mathlib.Numerals.{add-one}
 use native.Mathlib.Omega.{arith}
-use borrow.Author.Tests.{eq-eqb, eqb-true}
+use borrow.Author.Tests.{eq-eqb}
 use lib.Dec.{eqb}
-use lib.ListN.{length, take, drop, set, length-append, length-drop, length-map, take-append-drop}
+use lib.ListN.{length, take, drop, set, length-drop, length-map, take-append-drop}
 use lib.Seq.{take-suc-set, length-take-le, take-append-le, drop-append-le}
 use Rattle.seven_bit.specs.Parts.{part, splice}
-use Rattle.seven_bit.proofs.PartLaws.{length-part, part-splice}
-use Rattle.pe_slot.specs.Slot.{Piece, held, bodyLen}
+use Rattle.seven_bit.proofs.PartLaws.{part-splice}
+use Rattle.pe_slot.specs.Slot.{Piece, held}
 use Rattle.pe_slot.specs.Memory.{packed, metaNumber, metaLen, metaOffset, pieceOf, piecesOf, endsAt}
 use Rattle.pe_slot.specs.Records.{holds}
+use Rattle.pe_slot.proofs.RecordLaws.{ends-cons, ends-after}
 
 -- a record, packed and taken apart
 pub packed-offset : (k n a : ℕ) → k < 65536 → n < 65536 → metaOffset (packed k n a) ≡ a
@@ -27,24 +28,9 @@ packed-len k n a h g = omega arith
 pub packed-number : (k n a : ℕ) → k < 65536 → metaNumber (packed k n a) ≡ k
 packed-number k n a h = omega arith
 
--- the first record starts at the place, and the others lie behind it
-pub ends-cons : (at x : ℕ) (xs : List ℕ) (end : ℕ) → endsAt at (x ∷ xs) ≡ some end → (metaOffset x ≡ at) × (endsAt (at + metaLen x) xs ≡ some end)
-unfolding endsAt
-ends-cons at x xs end e = go (eqb (metaOffset x) at) refl e
-  where
-    go : (t : Bool) → eqb (metaOffset x) at ≡ t → cond t (endsAt (at + metaLen x) xs) none ≡ some end
-        → (metaOffset x ≡ at) × (endsAt (at + metaLen x) xs ≡ some end)
-    go true q e = (eqb-true _ _ q, e)
-    go false q e = absurd (let z : _≡_ {A = ℕ} 0 1 = cc in omega arith)
-
 ends-nil : (at end : ℕ) → endsAt at [] ≡ some end → at ≡ end
 unfolding endsAt
 ends-nil at end e = cc
-
--- and end no earlier than they start
-pub ends-after : (at : ℕ) (xs : List ℕ) (end : ℕ) → endsAt at xs ≡ some end → at ≤ end
-ends-after at [] end e = let q = ends-nil at end e in omega arith
-ends-after at (x ∷ xs) end e = let q = ends-after (at + metaLen x) xs end (ends-cons at x xs end e .1) in omega arith
 
 -- one record more
 pub ends-snoc : (at : ℕ) (xs : List ℕ) (x n : ℕ) → endsAt at xs ≡ some n → metaOffset x ≡ n → endsAt at (xs ++ (x ∷ [])) ≡ some (n + metaLen x)
@@ -63,16 +49,6 @@ holds-held n (x ∷ xs) arena = ap (λ (b : Bool). cond (eqb (metaNumber x) n) t
 pub pieces-length : (records arena : List ℕ) → length (piecesOf records arena) ≡ length records
 unfolding piecesOf
 pieces-length records arena = length-map records (pieceOf arena)
-
-pub body-length : (at : ℕ) (records arena : List ℕ) (end : ℕ) → endsAt at records ≡ some end → end ≤ length arena → at + bodyLen (piecesOf records arena) ≡ end
-unfolding bodyLen piecesOf pieceOf
-body-length at [] arena end e l = let q = ends-nil at end e in omega arith
-body-length at (x ∷ xs) arena end e l =
-    let p = ends-cons at x xs end e in
-    let r = ends-after (at + metaLen x) xs end (p .1) in
-    let n : length (part (metaOffset x) (metaLen x) arena) ≡ metaLen x = length-part (metaOffset x) (metaLen x) arena (omega (arith, p .0)) in
-    let i : (at + metaLen x) + bodyLen (piecesOf xs arena) ≡ end = body-length (at + metaLen x) xs arena end (p .1) l in
-    rw n (unfold piecesOf in (omega arith))
 
 -- a part that lies before what is put in
 part-front : (b m : ℕ) (p q : List ℕ) → b + m ≤ length p → part b m (p ++ q) ≡ part b m p

@@ -11,7 +11,7 @@ use Rattle.pe_frame.specs.Chunk.{Chunk}
 use Rattle.pe_slot.specs.declared.slot.TxSlot.{TxSlot}
 use Rattle.pe_slot.specs.Memory.{isSound}
 use Rattle.pe_slot.specs.Feed.{isShaped}
-use Rattle.pe_slot.proofs.FeedDoor.{Shaped, shaped-told, Bounded, bounded-told, unbounded, unlaid, sound, ends, fed-unshaped, fed-damaged, fed-long, fed-sound}
+use Rattle.pe_slot.proofs.FeedAsked.{Shaped, shaped-told, Bounded, bounded-told, unbounded, unlaid, sound, ends, fed-unshaped, fed-damaged, fed-long, fed-sound}
 
 abbrev start : tie.Else1 → tie.Start
 start c = c .before .before .before .before .before .before .before .before .before .before
