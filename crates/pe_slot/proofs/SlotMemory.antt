@@ -2,7 +2,7 @@
 -- Assumes nothing.
 use Prim.Native.Nat.{ℕ, _+_, _-_, _<_, _≤_}
 use mathlib.Core.Bool.{Bool, true, cond}
-use mathlib.Core.List.{List, [], _∷_, _++_}
+use mathlib.Core.List.{List, [], _∷_, _++_, map-append}
 use mathlib.Core.Option.{some}
 use mathlib.Core.Path.{_≡_, refl, sym, ap, _∙_}
 use native.Mathlib.Numerals.{add-one}
@@ -78,8 +78,7 @@ pieces-before at (x ∷ xs) arena ys end k e l =
 
 map-snoc : (arena xs : List ℕ) (x : ℕ) → piecesOf (xs ++ (x ∷ [])) arena ≡ piecesOf xs arena ++ (pieceOf arena x ∷ [])
 unfolding piecesOf
-map-snoc arena [] x = refl
-map-snoc arena (y ∷ ys) x = ap (λ (ps : List Piece). pieceOf arena y ∷ ps) (unfold piecesOf in (map-snoc arena ys x))
+map-snoc arena xs x = map-append (pieceOf arena) xs (x ∷ [])
 
 -- a piece more: the record at the end of the records, and its bytes at the end of theirs
 module _ (index arena : List ℕ) (len end number : ℕ) (bytes : List ℕ)
