@@ -10,7 +10,7 @@ use lib.Dec.{leb}
 use lib.ListN.{length}
 use Rattle.seven_bit.specs.Reply.{Reply, granted, refused, _else_then_, andThen}
 use Rattle.seven_bit.specs.SevenBit.{isSevenBit}
-use Rattle.seven_bit.proofs.ReplyLaws.{asked}
+use Rattle.seven_bit.proofs.ReplyLaws.{asked, then-else}
 use Rattle.pe_chunker.specs.Cut.{budget, laterCapacity, bodyPieces, askCut}
 use Rattle.pe_chunker.proofs.CutLaws.{later-is, later-between}
 
@@ -76,11 +76,6 @@ cut-told id header body limit next a q =
     (record { low = leb-true _ _ (p1 .0); seven = p2 .0; fits = omega (arith, later-is limit); few = leb-true _ _ (p5 .0) }, p5 .1)
 
 -- what follows the questions may be put after them
-then-else : {A B : Type 0} (b : Bool) (number : ℕ) (r : Reply A) (r′ : Reply B) (f : A → Reply B) → r′ ≡ andThen r f
-    → (b else number then r′) ≡ andThen (b else number then r) f
-then-else true number r r′ f e = e
-then-else false number r r′ f e = refl
-
 then-cut : {A B : Type 0} (id : ℕ) (header body : List ℕ) (limit : ℕ) (r : Reply A) (r′ : Reply B) (f : A → Reply B) → r′ ≡ andThen r f
     → askCut id header body limit r′ ≡ andThen (askCut id header body limit r) f
 unfolding askCut

@@ -12,7 +12,7 @@ use lib.Seq.{take-length}
 use Rattle.seven_bit.specs.Reply.{granted, refused}
 use Rattle.seven_bit.specs.SevenBit.{isSevenBit}
 use Rattle.seven_bit.proofs.PartLaws.{part-none}
-use Rattle.seven_bit.proofs.ReplyLaws.{asked}
+use Rattle.seven_bit.proofs.ReplyLaws.{asked, and-told}
 use Rattle.pe_frame.specs.Write.{chunkLen, writeChunk}
 use Rattle.pe_frame.proofs.ChunkLaws.{InRange, ask-yes}
 use Rattle.pe_chunker.specs.Cut.{budget, laterCapacity, bodyPieces, chunkAt, cutCount, cutChunk}
@@ -134,16 +134,11 @@ chunk-written id header body limit k room c one h =
     ∙ rw (le-leb _ _ one, le-leb _ _ h)
     (sym (ask-yes (chunkAt id header body limit k) _ (chunk-in-range id header body limit k c one h)))
 
--- what a chunk that was written tells
-both-true : (a b : Bool) → (a && b) ≡ true → (a ≡ true) × (b ≡ true)
-both-true true b q = (refl, q)
-both-true false b q = absurd (let z : _≡_ {A = ℕ} 0 1 = ap (λ (x : Bool). cond x 1 0) q in omega arith)
-
 pub chunk-told : (id : ℕ) (header body : List ℕ) (limit k room : ℕ) (bs : List ℕ) → cutChunk id header body limit k room ≡ granted bs
     → Cut id header body limit × (1 ≤ k) × (k ≤ length (bodyPieces limit (length header) body))
 unfolding cutChunk
 chunk-told id header body limit k room bs q =
     let t = cut-told id header body limit _ bs q in
     let n = length (bodyPieces limit (length header) body) in
-    let b = both-true (leb 1 k) (leb k n) (asked (leb 1 k && leb k n) 29 _ bs (t .1) .0) in
+    let b = and-told (leb 1 k) (leb k n) (asked (leb 1 k && leb k n) 29 _ bs (t .1) .0) in
     (t .0, leb-true 1 k (b .0), leb-true k n (b .1))

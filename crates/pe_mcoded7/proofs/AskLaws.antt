@@ -10,7 +10,7 @@ use lib.Dec.{leb, eqb}
 use lib.ListN.{length, getD, take, drop, length-drop, take-append-drop}
 use Rattle.seven_bit.specs.Reply.{Reply, granted, refused, _else_then_, andThen}
 use Rattle.seven_bit.specs.SevenBit.{isSevenBit}
-use Rattle.seven_bit.proofs.ReplyLaws.{asked}
+use Rattle.seven_bit.proofs.ReplyLaws.{asked, then-else}
 use Rattle.seven_bit.proofs.SevenBitLaws.{seven-bit-cons, seven-bit-split}
 use Rattle.pe_wire.specs.Wire.{encodedTold}
 use Rattle.pe_wire.specs.declared.error.PeError.{PeError}
@@ -19,11 +19,6 @@ use Rattle.pe_mcoded7.specs.Mcoded7.{encoded, writeMcoded7, groups, deco
 use Rattle.pe_mcoded7.proofs.TextLaws.{by-groups, group-is, after-group, groups-none, groups-next}
 
 -- what follows the questions may be put after them
-then-else : {A B : Type 0} (b : Bool) (number : ℕ) (r : Reply A) (r′ : Reply B) (f : A → Reply B) → r′ ≡ andThen r f
-    → (b else number then r′) ≡ andThen (b else number then r) f
-then-else true number r r′ f e = e
-then-else false number r r′ f e = refl
-
 then-group : {A B : Type 0} (g : List ℕ) (r : Reply A) (r′ : Reply B) (f : A → Reply B) → r′ ≡ andThen r f → askGroup g r′ ≡ andThen (askGroup g r) f
 unfolding askGroup
 then-group g r r′ f e =

@@ -12,14 +12,14 @@ use lib.ListN.{length, getD, set, length-set}
 use lib.Seq.{getD-set-same}
 use Rattle.seven_bit.specs.Parts.{splice}
 use Rattle.seven_bit.proofs.PartLaws.{part-splice}
-use Rattle.seven_bit.proofs.ReplyLaws.{both}
+use Rattle.seven_bit.proofs.ReplyLaws.{both, and-told}
 use Rattle.pe_slot.specs.Feed.{After}
 use Rattle.pe_reassembler.specs.declared.shape.Shape.{Shape}
 use Rattle.pe_reassembler.specs.Feed.{Memory, nextTick, bind, wordsPart, roomPart, lifted}
 use Rattle.pe_reassembler.specs.Table.{hasRooms, numbersLen, roomsLen, peerAt, slotAt, roomAt, isBound, boundTo}
 use Rattle.pe_reassembler.proofs.FeedLaws.{room-in}
 use Rattle.pe_reassembler.proofs.PlaceLaws.{OnlyAt, only-get, only-wider, only-then, only-same, only-splice, only-set, less-or, other-place, words-apart, rooms-apart, peer-apart}
-use Rattle.pe_reassembler.proofs.TableLaws.{both-true, numbers-long}
+use Rattle.pe_reassembler.proofs.TableLaws.{numbers-long}
 
 -- what question 30 tells of the four slices
 pub record Roomy (shape : Shape) (numbers index headers arenas : List ℕ) : Type 0 where
@@ -31,9 +31,9 @@ pub record Roomy (shape : Shape) (numbers index headers arenas : List ℕ) : Typ
 pub rooms-told : (shape : Shape) (numbers index headers arenas : List ℕ) → hasRooms shape numbers index headers arenas ≡ true → Roomy shape numbers index headers arenas
 unfolding hasRooms
 rooms-told shape numbers index headers arenas e =
-    let a = both-true _ _ e in
-    let b = both-true _ _ (a .0) in
-    let c = both-true _ _ (b .0) in
+    let a = and-told _ _ e in
+    let b = and-told _ _ (a .0) in
+    let c = and-told _ _ (b .0) in
     record {
       numbers-long = numbers-long shape numbers (c .0) .1;
       index-long = leb-true _ _ (c .1);
@@ -81,7 +81,7 @@ module _ (numbers : List ℕ) (peer p : ℕ) where
 
   own-told : boundTo numbers peer p ≡ true → (isBound numbers p ≡ true) × (getD numbers (peerAt p + 1) 0 ≡ peer)
   unfolding boundTo
-  own-told e = let a = both-true _ _ e in (a .0, eqb-true _ _ (a .1))
+  own-told e = let a = and-told _ _ e in (a .0, eqb-true _ _ (a .1))
 
   bind-bound : peerAt p + 1 < length numbers → isBound (bind numbers peer p) p ≡ true
   unfolding bind

@@ -15,7 +15,7 @@ use lib.Seq.{set-append-left, take-set-lt, drop-set-lt, getD-take, length-take-l
 use Rattle.seven_bit.specs.Parts.{part, splice}
 use Rattle.seven_bit.specs.Reply.{Reply, granted, refused}
 use Rattle.seven_bit.proofs.PartLaws.{length-part}
-use Rattle.seven_bit.proofs.ReplyLaws.{both, first-granted}
+use Rattle.seven_bit.proofs.ReplyLaws.{both, first-granted, and-told}
 use Rattle.midici_core.specs.Header.{readHeader}
 use Rattle.midici_core.specs.Message.{Message, readMessage}
 use Rattle.midici_core.proofs.HeaderLaws.{read-long}
@@ -30,7 +30,7 @@ use Rattle.pe_reassembler.specs.Table.{hasNumbers, hasRooms, isBound, bo
 use Rattle.pe_reassembler.specs.Feed.{Memory, memory, Fed, fed, nextTick, bind, hasAll, lifted, reach, wordsPart, roomPart}
 use Rattle.pe_reassembler.specs.Steps.{isDamaged, noted, spliced}
 use Rattle.pe_reassembler.proofs.TableClose.{part-lent, part-back}
-use Rattle.pe_reassembler.proofs.TableLaws.{both-true, Ranges, in-range, numbers-long, record-for-below}
+use Rattle.pe_reassembler.proofs.TableLaws.{Ranges, in-range, numbers-long, record-for-below}
 
 -- what question 30 tells
 pub record Lent (shape : Shape) (m : Memory) : Type 0 where
@@ -44,11 +44,11 @@ pub record Lent (shape : Shape) (m : Memory) : Type 0 where
 pub lent-told : (shape : Shape) (m : Memory) → hasAll shape m ≡ true → Lent shape m
 unfolding hasAll hasRooms
 lent-told shape m e =
-    let a = both-true _ _ e in
-    let b = both-true _ _ (a .0) in
-    let c = both-true _ _ (b .0) in
-    let d = both-true _ _ (c .0) in
-    let f = both-true _ _ (d .0) in
+    let a = and-told _ _ e in
+    let b = and-told _ _ (a .0) in
+    let c = and-told _ _ (b .0) in
+    let d = and-told _ _ (c .0) in
+    let f = and-told _ _ (d .0) in
     record {
       numbers = f .0;
       index = leb-true _ _ (f .1);

@@ -12,7 +12,7 @@ use lib.Dec.{ltb}
 use lib.ListN.{length, getD, take, drop, set, take-append-drop, length-drop, length-set}
 use lib.Seq.{drop-append-le, take-append-le, take-set-le, drop-set-lt, drop-set-add, length-take-le, drop-at, drop-drop, getD-take, getD-drop}
 use Rattle.seven_bit.specs.Parts.{part, splice}
-use Rattle.seven_bit.proofs.PartLaws.{length-splice}
+use Rattle.seven_bit.proofs.PartLaws.{length-splice, part-front}
 use Rattle.seven_bit.proofs.ReplyLaws.{both}
 use Rattle.pe_reassembler.specs.Table.{peerAt, slotAt, roomAt}
 
@@ -28,11 +28,6 @@ less-or a b = go (both (ltb a b))
 -- the k places from a on and the l places from b on have none in common
 abbrev pub Apart : ℕ → ℕ → ℕ → ℕ → Type 0
 Apart a k b l = (b + l ≤ a) ⊎ (a + k ≤ b)
-
--- a part of the first of two lists
-pub part-front : (b l : ℕ) (xs ys : List ℕ) → b + l ≤ length xs → part b l (xs ++ ys) ≡ part b l xs
-part-front b l xs ys h =
-    ap (λ (r : List ℕ). take l r) (drop-append-le b xs ys (omega arith)) ∙ take-append-le l (drop b xs) ys (simp length-drop (omega arith))
 
 -- a part of a part
 pub part-part : (a k b l : ℕ) (xs : List ℕ) → a + k ≤ l → b + l ≤ length xs → part a k (part b l xs) ≡ part (b + a) k xs

@@ -20,7 +20,7 @@ use Rattle.pe_slot.specs.Records.{holds}
 use Rattle.pe_slot.specs.Feed.{Told, After, after, touched, grown, closed, placed, isShaped, feedSlot}
 use Rattle.pe_slot.specs.Steps.{judgedOf}
 use Rattle.pe_slot.proofs.FeedLaws.{length-kept}
-use Rattle.pe_slot.proofs.FeedTheorems.{Sound, sound-told}
+use Rattle.pe_slot.proofs.FeedTheorems.{Sound, sound-told, opened}
 use Rattle.pe_slot.proofs.JudgeLaws.{verdictOf, judge-is, header-fits, piece-fits}
 use Rattle.pe_reassembler.specs.declared.shape.Shape.{Shape}
 use Rattle.pe_reassembler.specs.Feed.{Memory, wordsPart, roomPart}
@@ -90,13 +90,6 @@ module _ (t : TxSlot) (index header arena : List ℕ) (c : Chunk) (out-header ou
       closing : (b : Bool) (g : TxSlot) → Headed g → Headed (slotOf (wordsOf (cond b (closed g) g)))
       closing true g e = λ (z : _). refl
       closing false g e = e
-
-opened : (a : ℕ) → eqb (cond (eqb a 0) 1 a) 0 ≡ false
-opened a = go (eqb a 0) refl
-  where
-    go : (b : Bool) → eqb a 0 ≡ b → eqb (cond b 1 a) 0 ≡ false
-    go true e = refl
-    go false e = e
 
 -- whatever the answer is: nothing was changed, or a sound slot was asked its own questions
 module _ (words index header arena : List ℕ) (c : Chunk) (now-ms tick : ℕ) (out-header out-body : List ℕ) where

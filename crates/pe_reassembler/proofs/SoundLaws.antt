@@ -12,7 +12,7 @@ use borrow.Author.Tests.{le-leb, eqb-true, eqb-false}
 use lib.Dec.{leb, eqb}
 use lib.ListN.{length, getD, drop, replicate}
 use Rattle.seven_bit.specs.Reply.{Reply, granted, refused}
-use Rattle.seven_bit.proofs.ReplyLaws.{both}
+use Rattle.seven_bit.proofs.ReplyLaws.{both, and-told}
 use Rattle.midici_core.specs.Message.{Message, readMessage}
 use Rattle.pe_frame.specs.Chunk.{Chunk, Fields, readFields, chunkOf}
 use Rattle.pe_frame.proofs.RoundTrip.{read-told}
@@ -29,7 +29,7 @@ use Rattle.pe_reassembler.proofs.Effects.{Sized, lifted-words, lifted-w
 use Rattle.pe_reassembler.proofs.EffectsClose.{close-words, close-words-other, due-words, drop-words, drop-words-other}
 use Rattle.pe_reassembler.proofs.EffectsNew.{new-words}
 use Rattle.pe_reassembler.proofs.SlotLengths.{Blank, Headed, fed-blank, fed-headed, fed-sized, records-length, header-length, arena-length}
-use Rattle.pe_reassembler.proofs.TableLaws.{both-true, numbers-long, record-of-below, record-for-below, slot-open-below, slot-for-below}
+use Rattle.pe_reassembler.proofs.TableLaws.{numbers-long, record-of-below, record-for-below, slot-open-below, slot-for-below}
 
 -- a slot's words and records
 pub record SlotSound (H B R : ℕ) (words records : List ℕ) : Type 0 where
@@ -150,7 +150,7 @@ module _ (shape : Shape) (numbers index : List ℕ) (a : SlotsSound shape number
       go : ((hasNumbers shape numbers && leb (4 * shape .«max_peers») (length out-peers) && leb (4 * shape .«max_peers») (length out-ids)) ≡ true)
           ⊎ ((hasNumbers shape numbers && leb (4 * shape .«max_peers») (length out-peers) && leb (4 * shape .«max_peers») (length out-ids)) ≡ false)
           → SlotsSound shape (pollCall shape numbers now-ms out-peers out-ids .numbers) index
-      go (inl e) = rw e (due (both-true _ _ (both-true _ _ e .0) .0))
+      go (inl e) = rw e (due (and-told _ _ (and-told _ _ e .0) .0))
       go (inr e) = rw e a
 
 -- a feed keeps it
@@ -230,7 +230,7 @@ module _ (shape : Shape) (m : Memory) (peer now-ms : ℕ) (h : hasRooms shape (m
 
 rooms-of : (shape : Shape) (m : Memory) → hasAll shape m ≡ true → hasRooms shape (m .numbers) (m .index) (m .headers) (m .arenas) ≡ true
 unfolding hasAll
-rooms-of shape m e = both-true _ _ (both-true _ _ e .0) .0
+rooms-of shape m e = and-told _ _ (and-told _ _ e .0) .0
 
 module _ (shape : Shape) (m : Memory) (a : SlotsSound shape (m .numbers) (m .index)) where
   pub sound-feed : (peer : ℕ) (data′ : List ℕ) (now-ms : ℕ)

@@ -10,14 +10,10 @@ use native.Mathlib.Nat.{mul-le-mul}
 use native.Mathlib.Omega.{arith}
 use borrow.Author.Tests.{leb-true, not-true, not-false}
 use lib.ListN.{length}
+use Rattle.seven_bit.proofs.ReplyLaws.{and-told}
 use Rattle.pe_reassembler.specs.declared.shape.Shape.{Shape}
 use Rattle.pe_reassembler.specs.declared.table.Place.{Place}
 use Rattle.pe_reassembler.specs.Table.{inRange, hasNumbers, hasRooms, numbersLen, roomsLen, isBound, isIdle, firstFrom, first, orElse, recordOf, recordFor, slotOpen, slotFor, placeTold}
-
--- both tests of a pair
-pub both-true : (a b : Bool) → (a && b) ≡ true → (a ≡ true) × (b ≡ true)
-both-true true b e = (refl, e)
-both-true false b e = absurd (let z : _≡_ {A = ℕ} 0 1 = ap (λ (x : Bool). cond x 1 0) e in omega arith)
 
 -- what the questions tell
 pub record Ranges (shape : Shape) : Type 0 where
@@ -29,27 +25,27 @@ pub record Ranges (shape : Shape) : Type 0 where
 pub ranges : (shape : Shape) → inRange shape ≡ true → Ranges shape
 unfolding inRange
 ranges shape e =
-    let a = both-true _ _ e in
-    let b = both-true _ _ (a .0) in
-    let c = both-true _ _ (b .0) in
+    let a = and-told _ _ e in
+    let b = and-told _ _ (a .0) in
+    let c = and-told _ _ (b .0) in
     record { peers = leb-true _ _ (c .0); header = leb-true _ _ (c .1); body = leb-true _ _ (b .1); records = leb-true _ _ (a .1) }
 
 pub asked-range : (shape : Shape) (numbers : List ℕ) → hasNumbers shape numbers ≡ true → inRange shape ≡ true
 unfolding hasNumbers
-asked-range shape numbers e = both-true _ _ e .0
+asked-range shape numbers e = and-told _ _ e .0
 
 pub in-range : (shape : Shape) (numbers : List ℕ) → hasNumbers shape numbers ≡ true → Ranges shape
 in-range shape numbers e = ranges shape (asked-range shape numbers e)
 
 pub numbers-long : (shape : Shape) (numbers : List ℕ) → hasNumbers shape numbers ≡ true → (shape .«max_peers» ≤ 16) × (numbersLen shape ≤ length numbers)
 unfolding hasNumbers
-numbers-long shape numbers e = let a = both-true _ _ e in (ranges shape (a .0) .peers, leb-true _ _ (a .1))
+numbers-long shape numbers e = let a = and-told _ _ e in (ranges shape (a .0) .peers, leb-true _ _ (a .1))
 
 pub index-long : (shape : Shape) (numbers index headers arenas : List ℕ) → hasRooms shape numbers index headers arenas ≡ true
     → (hasNumbers shape numbers ≡ true) × (roomsLen (shape .«fragment_records») shape ≤ length index)
 unfolding hasRooms
 index-long shape numbers index headers arenas e =
-    let a = both-true _ _ (both-true _ _ (both-true _ _ e .0) .0) in
+    let a = and-told _ _ (and-told _ _ (and-told _ _ e .0) .0) in
     (a .0, leb-true _ _ (a .1))
 
 -- rooms of at most 65,536 elements for at most 16 peers

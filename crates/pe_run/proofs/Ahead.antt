@@ -8,7 +8,7 @@ use native.Mathlib.Omega.{arith}
 use borrow.Author.Tests.{le-leb, leb-true}
 use lib.ListN.{length, drop}
 use Rattle.seven_bit.specs.Reply.{Reply, granted, refused, andThen}
-use Rattle.seven_bit.proofs.ReplyLaws.{asked, first-granted, same-grant}
+use Rattle.seven_bit.proofs.ReplyLaws.{asked, first-granted, same-grant, and-told}
 use Rattle.midici_core.specs.Message.{Message, readMessage}
 use Rattle.pe_frame.specs.Chunk.{Fields, readFields, chunkOf}
 use Rattle.pe_frame.proofs.RoundTrip.{read-in-range}
@@ -16,7 +16,6 @@ use Rattle.pe_reassembler.specs.Table.{inRange, hasNumbers, hasRooms, isMuid}
 use Rattle.pe_reassembler.specs.Feed.{Fed, fed, atTable, chunkRead, hasAll, feedCall, messageRead, messageCall}
 use Rattle.pe_reassembler.specs.Poll.{Timeout, dueFrom, sorted, closeDue, polled, pollCall}
 use Rattle.pe_reassembler.specs.Open.{Shown, listed, openCall}
-use Rattle.pe_reassembler.proofs.TableLaws.{both-true}
 use Rattle.pe_run.specs.Calls.{Arrival, arriving, hasOutputs, fedArrival, messageArrival, hasPlaces}
 use Rattle.pe_run.specs.Demand.{LongEnough}
 use Rattle.pe_run.specs.Run.{Table, fullSize, lent}
@@ -112,7 +111,7 @@ module _ (now-ms : ℕ) (out-header out-body : List ℕ) (a : Arrival) where
   arriving-small peer bytes o q =
       let f = first-granted (readFields bytes) _ a q in
       let r = read-in-range bytes (f .0) (f .1) in
-      let e = both-true _ _ o in
+      let e = and-told _ _ o in
       subst (Small out-header out-body) (same-grant _ _ a refl (f .2))
       (record { header-room = leb-true _ _ (e .0); body-room = leb-true _ _ (e .1); number = r .number; property = r .property-len })
 

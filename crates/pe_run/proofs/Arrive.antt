@@ -10,12 +10,12 @@ use native.Mathlib.Omega.{arith}
 use borrow.Author.Tests.{eqb-true, ne-eqb, lt-leb}
 use lib.Dec.{leb, eqb}
 use Rattle.seven_bit.specs.Reply.{refused}
-use Rattle.seven_bit.proofs.ReplyLaws.{both}
+use Rattle.seven_bit.proofs.ReplyLaws.{both, and-told}
 use Rattle.pe_frame.specs.Chunk.{Chunk}
 use Rattle.pe_run.specs.Lists.{keep}
 use Rattle.pe_run.specs.Model.{Open, Entry, Model, isAt, isOf, isLate, find, openOf, findsRecord, hasFour, touchedAt, judged, entryOf, without, arrived, arrives, Act, arrive, cancel, drop, poll, nothing, after}
 use Rattle.pe_run.specs.Demand.{Room, Spared}
-use Rattle.pe_run.proofs.ListLaws.{eqb-self, eqb-sym, never, and-left, and-right}
+use Rattle.pe_run.proofs.ListLaws.{eqb-self, eqb-sym, never}
 
 -- ---- finding
 find-keep : (test : Entry → Bool) (peer request-id : ℕ) (b : Model) (o : Open) → ((e : Entry) → isAt peer request-id e ≡ true → e .state ≡ o → test e ≡ true)
@@ -60,8 +60,8 @@ find-arrived peer request-id b o = rw (eqb-self peer, eqb-self request-id)
 other-key : (p i q j : ℕ) (e : Entry) → (eqb p q && eqb i j) ≡ false → isAt p i e ≡ true → not (isAt q j e) ≡ true
 other-key p i q j e h k =
     rw (
-      ← eqb-true p (e .peer) (and-left (eqb p (e .peer)) (eqb i (e .request-id)) k),
-      ← eqb-true i (e .request-id) (and-right (eqb p (e .peer)) (eqb i (e .request-id)) k),
+      ← eqb-true p (e .peer) (and-told (eqb p (e .peer)) (eqb i (e .request-id)) k .0),
+      ← eqb-true i (e .request-id) (and-told (eqb p (e .peer)) (eqb i (e .request-id)) k .1),
       eqb-sym q p,
       eqb-sym j i,
       h,
@@ -101,7 +101,7 @@ module _ (p i : ℕ) (b : Model) (o : Open) (f : find p i b ≡ some o) where
   find-after n (drop q) acts h s = (find-keep (λ (e : Entry). not (isOf q e)) p i b o (λ e k w. away e k) f, s .1)
     where
       away : (e : Entry) → isAt p i e ≡ true → not (eqb q (e .peer)) ≡ true
-      away e k = rw (← eqb-true p (e .peer) (and-left (eqb p (e .peer)) (eqb i (e .request-id)) k), eqb-sym q p, s .0)
+      away e k = rw (← eqb-true p (e .peer) (and-told (eqb p (e .peer)) (eqb i (e .request-id)) k .0), eqb-sym q p, s .0)
   find-after n (poll now-ms) acts h s = (find-keep (λ (e : Entry). not (isLate now-ms e)) p i b o (λ e k w. soon e w) f, s .1)
     where
       soon : (e : Entry) → e .state ≡ o → not (leb 3000 (now-ms - e .state .time)) ≡ true

@@ -9,14 +9,14 @@ use native.Mathlib.Omega.{arith}
 use borrow.Author.Tests.{eqb-true}
 use lib.Dec.{eqb}
 use Rattle.seven_bit.specs.Reply.{Reply, granted, refused}
-use Rattle.seven_bit.proofs.ReplyLaws.{asked, first-granted}
+use Rattle.seven_bit.proofs.ReplyLaws.{asked, first-granted, and-told}
 use Rattle.midici_core.specs.Message.{readMessage}
 use Rattle.pe_frame.specs.Chunk.{Chunk, readFields}
 use Rattle.pe_reassembler.specs.Table.{isMuid}
 use Rattle.pe_run.specs.Model.{Model, Act, arrive, cancel as cancelled, drop as dropped, poll as polled, nothing}
 use Rattle.pe_run.specs.Calls.{Call, feed, feed-message, cancel, drop-peer, poll, memory-stats, reserved-bytes, open-list, Answer, Arrival, arriving, hasOutputs, fedArrival, messageArrival, grantedOf, arrivalOf, arrivalAct, hasPlaces, actOf, arrivalAnswer, Right}
 use Rattle.pe_run.specs.Demand.{isUnder, isOurs, ours, bytesOf, arrivals, answersTo, outputs, Spared}
-use Rattle.pe_run.proofs.ListLaws.{never, and-left, and-right}
+use Rattle.pe_run.proofs.ListLaws.{never}
 use Rattle.pe_run.proofs.Chunks.{chunkIn, chunk-in}
 use Rattle.pe_run.proofs.Arrive.{isArrival}
 
@@ -112,12 +112,12 @@ module _ (peer request-id : ℕ) where
 
   module _ (c : Call) (k : Carrying c) where
     pub peer-is : peer ≡ k .arrival .peer
-    peer-is = eqb-true peer (k .arrival .peer) (and-left (eqb peer (k .arrival .peer)) (eqb request-id (k .arrival .chunk .request-id)) (k .under))
+    peer-is = eqb-true peer (k .arrival .peer) (and-told (eqb peer (k .arrival .peer)) (eqb request-id (k .arrival .chunk .request-id)) (k .under) .0)
 
     pub id-is : request-id ≡ k .arrival .chunk .request-id
     id-is =
         eqb-true request-id (k .arrival .chunk .request-id)
-        (and-right (eqb peer (k .arrival .peer)) (eqb request-id (k .arrival .chunk .request-id)) (k .under))
+        (and-told (eqb peer (k .arrival .peer)) (eqb request-id (k .arrival .chunk .request-id)) (k .under) .1)
 
     pub carried-first : (calls : List Call) → carried (c ∷ calls) ≡ k .arrival .chunk ∷ carried calls
     carried-first calls = rw (k .arrives) refl

@@ -26,14 +26,6 @@ eqb-sym a b = go (both (eqb a b))
 pub never : {A : Type 0} → true ≡ false → A
 never e = absurd (let z : _≡_ {A = ℕ} 0 1 = cc in omega arith)
 
-pub and-left : (a b : Bool) → (a && b) ≡ true → a ≡ true
-and-left true b e = refl
-and-left false b e = e
-
-pub and-right : (a b : Bool) → (a && b) ≡ true → b ≡ true
-and-right true b e = e
-and-right false b e = never (sym e)
-
 -- not the one and not the other
 pub or-false-left : (a b : Bool) → cond a true b ≡ false → a ≡ false
 or-false-left true b e = e

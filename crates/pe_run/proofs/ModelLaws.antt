@@ -10,10 +10,9 @@ use native.Mathlib.Omega.{arith}
 use borrow.Author.Tests.{eqb-true, leb-false}
 use lib.Dec.{leb, eqb}
 use Rattle.seven_bit.specs.Reply.{refused}
-use Rattle.seven_bit.proofs.ReplyLaws.{both}
+use Rattle.seven_bit.proofs.ReplyLaws.{both, and-told}
 use Rattle.pe_frame.specs.Chunk.{Chunk}
 use Rattle.pe_reassembler.specs.Open.{Perm, empty, skip, swap, then}
-use Rattle.pe_reassembler.proofs.TableLaws.{both-true}
 use Rattle.pe_run.specs.Lists.{keep, tally}
 use Rattle.pe_run.specs.Model.{Open, Entry, Model, isAt, isOf, isLate, find, findsRecord, hasFour, touchedAt, judged, entryOf, without, arrived, arrives, Act, arrive, cancel, drop, poll, nothing, after}
 use Rattle.pe_run.proofs.ListLaws.{eqb-sym, tally-keep}
@@ -21,7 +20,7 @@ use Rattle.pe_run.proofs.ListLaws.{eqb-sym, tally-keep}
 -- ---- finding
 pub key : (peer id : ℕ) (e : Entry) → isAt peer id e ≡ true → (peer ≡ e .peer) × (id ≡ e .request-id)
 key peer id e h =
-    let a = both-true (eqb peer (e .peer)) (eqb id (e .request-id)) h in
+    let a = and-told (eqb peer (e .peer)) (eqb id (e .request-id)) h in
     (eqb-true peer (e .peer) (a .0), eqb-true id (e .request-id) (a .1))
 
 -- two under one peer and id
@@ -146,7 +145,7 @@ without-fewer peer id (e ∷ b) x h = go (both (isAt peer id e)) (both (eqb peer
   where
     go : (isAt peer id e ≡ true) ⊎ (isAt peer id e ≡ false) → (eqb peer (e .peer) ≡ true) ⊎ (eqb peer (e .peer) ≡ false)
         → (find peer id b ≡ some x → tally (isOf peer) (without peer id b) < tally (isOf peer) b) → tally (isOf peer) (without peer id (e ∷ b)) < tally (isOf peer) (e ∷ b)
-    go (inl a) d r = rw (a, both-true (eqb peer (e .peer)) (eqb id (e .request-id)) a .0) (omega (arith, tally-keep (isOf peer) (λ (y : Entry). not (isAt peer id y)) b))
+    go (inl a) d r = rw (a, and-told (eqb peer (e .peer)) (eqb id (e .request-id)) a .0) (omega (arith, tally-keep (isOf peer) (λ (y : Entry). not (isAt peer id y)) b))
     go (inr a) (inl d) r = rw (a, d) (omega (arith, r (rw a at h)))
     go (inr a) (inr d) r = rw (a, d) (r (rw a at h))
 

@@ -8,8 +8,7 @@ use mathlib.Core.Option.{Option, none, some}
 use mathlib.Core.Path.{_≡_, refl, sym, ap, _∙_, subst}
 use native.Mathlib.Omega.{arith}
 use lib.Dec.{eqb}
-use Rattle.seven_bit.proofs.ReplyLaws.{both}
-use Rattle.pe_reassembler.proofs.TableLaws.{both-true}
+use Rattle.seven_bit.proofs.ReplyLaws.{both, and-told}
 use Rattle.pe_run.specs.Lists.{keep, tally, memb}
 use Rattle.pe_run.specs.Model.{Open, Entry, Model, isOf, find, isNone, peerOf, peersOpen, entryOf}
 use Rattle.pe_run.proofs.ListLaws.{eqb-self, eqb-sym, All, NoneOf, all-append, all-first, all-change}
@@ -65,7 +64,7 @@ free-none cell h = go (cell .state) h
 
 pub free-open : (muid : ℕ) (cells : List Cell) → every isFree cells ≡ true → cellsOpen muid cells ≡ []
 free-open muid [] h = refl
-free-open muid (cell ∷ cells) h = let a = both-true (isFree cell) (every isFree cells) h in rw (free-none cell (a .0)) (free-open muid cells (a .1))
+free-open muid (cell ∷ cells) h = let a = and-told (isFree cell) (every isFree cells) h in rw (free-none cell (a .0)) (free-open muid cells (a .1))
 
 pub no-id-open : (peer id : ℕ) (cells : List Cell) → NoneOf (hasId id) cells → find peer id (cellsOpen peer cells) ≡ none
 no-id-open peer id [] a = refl

@@ -9,8 +9,8 @@ use native.Mathlib.Omega.{arith}
 use borrow.Author.Tests.{eqb-true}
 use lib.Dec.{eqb}
 use lib.ListN.{length, replicate, length-replicate}
+use Rattle.seven_bit.proofs.ReplyLaws.{and-told}
 use Rattle.pe_reassembler.specs.Open.{Perm, empty, then}
-use Rattle.pe_reassembler.proofs.TableLaws.{both-true}
 use Rattle.pe_run.specs.Lists.{keep, tally}
 use Rattle.pe_run.specs.Model.{Open, Entry, Model, isAt, isOf, find, isNone, openOf, peerOf, peersOpen, entryOf, without, after}
 use Rattle.pe_run.proofs.ListLaws.{eqb-self, All, NoneOf, keep-append, tally-append}
@@ -65,10 +65,10 @@ module _ (peer : ℕ) {recs : List Rec} (tidy : Tidy recs) (s : Split (isOwn pee
   own-split = subst Tidy (s .parts) tidy
 
   pub own-bound : s .hit .bound ≡ true
-  own-bound = both-true (s .hit .bound) (eqb peer (s .hit .muid)) (s .passes) .0
+  own-bound = and-told (s .hit .bound) (eqb peer (s .hit .muid)) (s .passes) .0
 
   pub own-muid : peer ≡ s .hit .muid
-  own-muid = eqb-true peer (s .hit .muid) (both-true (s .hit .bound) (eqb peer (s .hit .muid)) (s .passes) .1)
+  own-muid = eqb-true peer (s .hit .muid) (and-told (s .hit .bound) (eqb peer (s .hit .muid)) (s .passes) .1)
 
   pub own-after : Apart peer (s .after)
   own-after = subst (λ (muid : ℕ). Apart muid (s .after)) (sym own-muid) (tidy-second (s .before) (s .hit ∷ s .after) own-split .1 own-bound)
@@ -195,7 +195,7 @@ own-open {n} {v} {b} rel peer id s u = go (u .hit .state) refl
         perm = then (perm-sym (subst (λ (o : Option Open). Perm (opens v) (entryOf peer (u .hit .request-id) o ++ rest s u peer)) e own)) (rel .same)
 
         is-at : isAt peer id entry ≡ true
-        is-at = rw (eqb-self peer) (both-true (isUsed (u .hit)) (eqb id (u .hit .request-id)) (u .passes) .1)
+        is-at = rw (eqb-self peer) (and-told (isUsed (u .hit)) (eqb id (u .hit .request-id)) (u .passes) .1)
 
         found : find peer id b ≡ some x
         found = sym (perm-find peer id perm (perm-unique (perm-sym perm) (rel .unique))) ∙ rw is-at

@@ -11,11 +11,10 @@ use borrow.Author.Tests.{lt-ltb, le-ltb, le-leb, ne-eqb, not-true}
 use lib.Dec.{eqb}
 use lib.ListN.{length, set}
 use Rattle.seven_bit.specs.Reply.{refused}
-use Rattle.seven_bit.proofs.ReplyLaws.{both}
+use Rattle.seven_bit.proofs.ReplyLaws.{both, and-told}
 use Rattle.pe_frame.specs.Chunk.{Chunk}
 use Rattle.pe_reassembler.specs.Open.{Perm, then}
 use Rattle.pe_reassembler.specs.Feed.{nextTick}
-use Rattle.pe_reassembler.proofs.TableLaws.{both-true}
 use Rattle.pe_run.specs.Lists.{tally}
 use Rattle.pe_run.specs.Model.{Open, Model, find, openOf, peersOpen, findsRecord, hasFour, touchedAt, Judged, judged, entryOf, without, Arrived, arrived, arrives, Act, arrive, cancel, drop, poll, nothing, after}
 use Rattle.pe_run.specs.Demand.{Room}
@@ -116,12 +115,12 @@ idle-split : (cells : List Cell) → every isFree cells ≡ true → length cell
     → (u : Split isFree cells) × ((muid : ℕ) → cellsOpen muid (u .before) ≡ []) × ((muid : ℕ) → cellsOpen muid (u .after) ≡ [])
 idle-split [] h e = absurd (omega arith)
 idle-split (cell ∷ cells) h e =
-    let a = both-true (isFree cell) (every isFree cells) h in
+    let a = and-told (isFree cell) (every isFree cells) h in
     (record { before = []; hit = cell; after = cells; parts = refl; passes = a .0; fails = tt }, λ muid. refl, λ muid. free-open muid cells (a .1))
 
 no-ids : (id : ℕ) (cells : List Cell) → every isFree cells ≡ true → NoneOf (hasId id) cells
 no-ids id [] h = tt
-no-ids id (cell ∷ cells) h = let a = both-true (isFree cell) (every isFree cells) h in (rw (a .0), no-ids id cells (a .1))
+no-ids id (cell ∷ cells) h = let a = and-told (isFree cell) (every isFree cells) h in (rw (a .0), no-ids id cells (a .1))
 
 module _ {n : ℕ} {v : Value} {b : Model} (rel : Rel n v b) (peer : ℕ) (c : Chunk) (now-ms : ℕ) where
   abbrev Goal : Type 0

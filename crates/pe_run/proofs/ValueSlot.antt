@@ -9,14 +9,13 @@ use mathlib.Core.Path.{_≡_, refl, sym, ap, _∙_}
 use borrow.Author.Tests.{le-leb, eqb-true}
 use lib.Dec.{leb, eqb}
 use lib.ListN.{length, getD, take}
-use Rattle.seven_bit.proofs.ReplyLaws.{both}
+use Rattle.seven_bit.proofs.ReplyLaws.{both, and-told}
 use Rattle.pe_frame.specs.Chunk.{Chunk}
 use Rattle.pe_slot.specs.declared.slot.TxSlot.{TxSlot}
 use Rattle.pe_slot.specs.Slot.{Slot, Verdict, judge, slotAfter}
 use Rattle.pe_slot.specs.Memory.{slotOf, wordsOf, piecesOf, contents, endsAt, isEnd, isSound}
 use Rattle.pe_slot.specs.Feed.{After, touched, grown, closed, toldAnswer, outHeader, outBody, placed, isShaped, feedSlot}
-use Rattle.pe_slot.proofs.FeedDoor.{and-told}
-use Rattle.pe_slot.proofs.FeedTheorems.{memory-follows}
+use Rattle.pe_slot.proofs.FeedTheorems.{memory-follows, opened}
 use Rattle.pe_reassembler.proofs.SoundLaws.{SlotSound}
 use Rattle.pe_run.specs.Model.{Open, touchedAt, Judged, judged}
 use Rattle.pe_run.proofs.Value.{cellOf, cellWith, shut}
@@ -25,14 +24,6 @@ use Rattle.pe_run.proofs.Value.{cellOf, cellWith, shut}
 pub closed-cell : (words index header arena : List ℕ) → cellOf (wordsOf (closed (slotOf words))) index header arena ≡ shut (cellOf words index header arena)
 unfolding cellOf
 closed-cell words index header arena = refl
-
--- the active word of an open slot is not 0
-opened : (a : ℕ) → eqb (cond (eqb a 0) 1 a) 0 ≡ false
-opened a = go (eqb a 0) refl
-  where
-    go : (b : Bool) → eqb a 0 ≡ b → eqb (cond b 1 a) 0 ≡ false
-    go true e = refl
-    go false e = e
 
 -- the two halves of question 31: lengths and records, and a free slot's
 abbrev laid : ℕ → ℕ → ℕ → TxSlot → List ℕ → Bool

@@ -9,6 +9,7 @@ use native.Mathlib.Omega.{arith}
 use borrow.Author.Tests.{le-leb, lt-leb, leb-true, eqb-true, not-true, not-false}
 use lib.Dec.{leb, eqb}
 use lib.ListN.{length, take}
+use Rattle.seven_bit.proofs.ReplyLaws.{and-told}
 use Rattle.seven_bit.specs.Reply.{refused}
 use Rattle.pe_frame.specs.Chunk.{Chunk}
 use Rattle.pe_slot.specs.declared.records.Pass.{Pass}
@@ -18,11 +19,6 @@ use Rattle.pe_slot.specs.Memory.{slotOf, contents, endsAt, isEnd, isSoun
 use Rattle.pe_slot.specs.Records.{Scanned}
 use Rattle.pe_slot.specs.Feed.{After, after, touched, placed, isShaped, feedSlot}
 use Rattle.pe_slot.specs.Steps.{isBounded, Ready}
-
--- both sides of a true `&&`
-pub and-told : (a b : Bool) → (a && b) ≡ true → (a ≡ true) × (b ≡ true)
-and-told true b e = (refl, e)
-and-told false b e = absurd (let z : _≡_ {A = ℕ} 0 1 = cc in omega arith)
 
 -- the lengths of a slot's parts are in range
 pub record Shaped (words index header arena out-header out-body : List ℕ) : Type 0 where

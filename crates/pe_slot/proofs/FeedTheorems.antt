@@ -9,6 +9,7 @@ use native.Mathlib.Omega.{arith}
 use borrow.Author.Tests.{le-leb, leb-true, ltb-true, eq-eqb, eqb-true}
 use lib.Dec.{leb, eqb}
 use lib.ListN.{length, take, set, length-set}
+use Rattle.seven_bit.proofs.ReplyLaws.{and-told}
 use Rattle.seven_bit.specs.Parts.{splice}
 use Rattle.seven_bit.specs.Reply.{refused}
 use Rattle.seven_bit.proofs.PartLaws.{length-splice}
@@ -24,7 +25,6 @@ use Rattle.pe_slot.specs.Steps.{judgedOf, grownBy}
 use Rattle.pe_slot.proofs.SlotMemory.{ends-grown}
 use Rattle.pe_slot.proofs.JudgeLaws.{verdictOf, judge-is, header-fits, piece-fits}
 use Rattle.pe_slot.proofs.FeedLaws.{contents-kept, contents-grown, length-kept, new-length}
-use Rattle.pe_slot.proofs.FeedAsked.{and-told}
 
 -- what a sound slot's memory is known to hold
 pub record Sound (H B R : ℕ) (t : TxSlot) (index : List ℕ) : Type 0 where
@@ -55,7 +55,7 @@ sound-closed : (H B R : ℕ) (t : TxSlot) (index : List ℕ) → isSound H B R (
 unfolding isSound endsAt
 sound-closed H B R t index = rw (le-leb 0 H (omega arith), le-leb 0 R (omega arith), le-leb 0 B (omega arith))
 
-opened : (a : ℕ) → eqb (cond (eqb a 0) 1 a) 0 ≡ false
+pub opened : (a : ℕ) → eqb (cond (eqb a 0) 1 a) 0 ≡ false
 opened a = go (eqb a 0) refl
   where
     go : (b : Bool) → eqb a 0 ≡ b → eqb (cond b 1 a) 0 ≡ false

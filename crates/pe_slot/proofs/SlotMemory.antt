@@ -12,7 +12,7 @@ use lib.Dec.{eqb}
 use lib.ListN.{length, take, drop, set, length-drop, length-map, take-append-drop}
 use lib.Seq.{take-suc-set, length-take-le, take-append-le, drop-append-le}
 use Rattle.seven_bit.specs.Parts.{part, splice}
-use Rattle.seven_bit.proofs.PartLaws.{part-splice}
+use Rattle.seven_bit.proofs.PartLaws.{part-splice, part-front}
 use Rattle.pe_slot.specs.Slot.{Piece, held}
 use Rattle.pe_slot.specs.Memory.{packed, metaNumber, metaLen, metaOffset, pieceOf, piecesOf, endsAt}
 use Rattle.pe_slot.specs.Records.{holds}
@@ -51,11 +51,6 @@ unfolding piecesOf
 pieces-length records arena = length-map records (pieceOf arena)
 
 -- a part that lies before what is put in
-part-front : (b m : ℕ) (p q : List ℕ) → b + m ≤ length p → part b m (p ++ q) ≡ part b m p
-part-front b m p q h =
-    ap (λ (l : List ℕ). take m l) (drop-append-le b p q (omega arith))
-    ∙ take-append-le m (drop b p) q (simp length-drop (omega arith))
-
 part-before : (a k b m : ℕ) (xs ys : List ℕ) → a + k ≤ length xs → b + m ≤ a → part b m (splice a k xs ys) ≡ part b m xs
 part-before a k b m xs ys h l =
     let n : length (take a xs) ≡ a = length-take-le a xs (omega arith) in
