@@ -3,8 +3,10 @@
 use Prim.Native.Nat.{ℕ}
 use mathlib.Core.Bool.{Bool}
 use mathlib.Core.List.{List}
+use mathlib.Core.Path.{_≡_}
 use Rattle.pe_reassembler.specs.Calls.{Fresh, Numbered}
 use Rattle.pe_reassembler.specs.Feed.{Memory, Fed}
+use Rattle.pe_reassembler.specs.Open.{Listed, OpenList}
 use Rattle.pe_reassembler.specs.Poll.{Polled}
 use Rattle.pe_reassembler.specs.declared.shape.Shape.{Shape}
 use Rattle.hub.specs.declared.answer.Answer.{Answer}
@@ -62,3 +64,22 @@ polledLeft answer numbers out-peers out-ids =
 
 abbrev pub polledOf : Polled → PolledLeft
 polledOf p = polledLeft (answerOf (p .answer)) (p .numbers) (p .out-peers) (p .out-ids)
+
+pub record OpenLeft : Type 0 where
+  pub answer : Answer
+  pub out-peers : List ℕ
+  pub out-ids : List ℕ
+  pub out-held : List ℕ
+
+abbrev pub openLeft : Answer → List ℕ → List ℕ → List ℕ → OpenLeft
+openLeft answer out-peers out-ids out-held =
+    record { answer = answer; out-peers = out-peers; out-ids = out-ids; out-held = out-held }
+
+abbrev pub openOf : Listed → OpenLeft
+openOf l = openLeft (answerOf (l .answer)) (l .out-peers) (l .out-ids) (l .out-held)
+
+-- An open list as the call tells it (the order of its rows is free), with its answer as a struct of numbers.
+pub record OpenListed (shape : Shape) (numbers out-peers out-ids out-held : List ℕ) (left : OpenLeft) : Type 0 where
+  pub told : Listed
+  pub open-list : OpenList shape numbers out-peers out-ids out-held told
+  pub in-numbers : left ≡ openOf told

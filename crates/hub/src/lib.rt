@@ -1,4 +1,5 @@
 // What the hub's C program calls: numbers and slices of bytes go in, a struct of numbers comes out.
 pub mod answer;
 pub mod chunks;
+pub mod controller;
 pub mod table;

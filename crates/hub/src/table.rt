@@ -9,6 +9,7 @@ use crate::answer::number_counted;
 use crate::answer::stats;
 use pe_reassembler::calls;
 use pe_reassembler::feed;
+use pe_reassembler::open;
 use pe_reassembler::poll;
 use pe_reassembler::shape::Shape;
 ghost use mathlib.Core.Path.{_≡_};
@@ -16,7 +17,23 @@ ghost use Rattle.pe_reassembler.specs.Calls.{newCall, cancelCall, dropCall, sta
 ghost use Rattle.pe_reassembler.specs.Feed.{memory, feedCall, messageCall};
 ghost use Rattle.pe_reassembler.specs.Poll.{pollCall};
 ghost use Rattle.hub.specs.Answers.{answerOf, statsAnswerOf};
-ghost use Rattle.hub.specs.Table.{shapeOf, madeLeft, madeOf, numbersLeft, cancelledOf, droppedOf, fedLeft, fedOf, polledLeft, polledOf};
+ghost use Rattle.hub.specs.Table.{shapeOf, madeLeft, madeOf, numbersLeft, cancelledOf, droppedOf, fedLeft, fedOf, polledLeft, polledOf, openLeft, OpenListed};
+
+fn shape_of(
+    max_peers: usize,
+    header_bytes: usize,
+    tx_bytes: usize,
+    fragment_records: usize,
+) -> Shape
+    ensures { λ r. ⌜ r ≡ shapeOf «max_peers» «header_bytes» «tx_bytes» «fragment_records» ⌝ }
+{
+    Shape {
+        max_peers,
+        header_bytes,
+        tx_bytes,
+        fragment_records,
+    }
+}
 
 // Makes a table in the lent memory; the rooms keep their bytes.
 #[no_mangle]
@@ -32,12 +49,7 @@ pub extern "C" fn midici_pe_new(
 ) -> Answer
     ensures { λ r. ⌜ madeLeft r (now (numbers .exit)) (now (index .exit)) ≡ madeOf (newCall (shapeOf «max_peers» «header_bytes» «tx_bytes» «fragment_records») (now (numbers .entry)) (now (index .entry)) (now (headers .entry)) (now (arenas .entry))) ⌝ }
 {
-    let shape = Shape {
-        max_peers,
-        header_bytes,
-        tx_bytes,
-        fragment_records,
-    };
+    let shape = shape_of(max_peers, header_bytes, tx_bytes, fragment_records);
     made(calls::new(shape, numbers, index, headers, arenas))
 }
 
@@ -60,12 +72,7 @@ pub extern "C" fn midici_pe_feed(
 ) -> FedAnswer
     ensures { λ r. ⌜ fedLeft r (memory (now (numbers .exit)) (now (index .exit)) (now (headers .exit)) (now (arenas .exit)) (now («out_header» .exit)) (now («out_body» .exit))) ≡ fedOf (feedCall (shapeOf «max_peers» «header_bytes» «tx_bytes» «fragment_records») (memory (now (numbers .entry)) (now (index .entry)) (now (headers .entry)) (now (arenas .entry)) (now («out_header» .entry)) (now («out_body» .entry))) peer (now («raw_chunk» .entry)) «now_ms») ⌝ }
 {
-    let shape = Shape {
-        max_peers,
-        header_bytes,
-        tx_bytes,
-        fragment_records,
-    };
+    let shape = shape_of(max_peers, header_bytes, tx_bytes, fragment_records);
     fed(feed::feed(
         shape,
         numbers,
@@ -98,12 +105,7 @@ pub extern "C" fn midici_pe_feed_message(
 ) -> FedAnswer
     ensures { λ r. ⌜ fedLeft r (memory (now (numbers .exit)) (now (index .exit)) (now (headers .exit)) (now (arenas .exit)) (now («out_header» .exit)) (now («out_body» .exit))) ≡ fedOf (messageCall (shapeOf «max_peers» «header_bytes» «tx_bytes» «fragment_records») (memory (now (numbers .entry)) (now (index .entry)) (now (headers .entry)) (now (arenas .entry)) (now («out_header» .entry)) (now («out_body» .entry))) (now (body .entry)) «now_ms») ⌝ }
 {
-    let shape = Shape {
-        max_peers,
-        header_bytes,
-        tx_bytes,
-        fragment_records,
-    };
+    let shape = shape_of(max_peers, header_bytes, tx_bytes, fragment_records);
     fed(feed::feed_message(
         shape,
         numbers,
@@ -130,12 +132,7 @@ pub extern "C" fn midici_pe_cancel(
 ) -> Answer
     ensures { λ r. ⌜ numbersLeft r (now (numbers .exit)) ≡ cancelledOf (cancelCall (shapeOf «max_peers» «header_bytes» «tx_bytes» «fragment_records») (now (numbers .entry)) peer «request_id») ⌝ }
 {
-    let shape = Shape {
-        max_peers,
-        header_bytes,
-        tx_bytes,
-        fragment_records,
-    };
+    let shape = shape_of(max_peers, header_bytes, tx_bytes, fragment_records);
     cancelled(calls::cancel(shape, numbers, peer, request_id))
 }
 
@@ -151,12 +148,7 @@ pub extern "C" fn midici_pe_drop_peer(
 ) -> Answer
     ensures { λ r. ⌜ numbersLeft r (now (numbers .exit)) ≡ droppedOf (dropCall (shapeOf «max_peers» «header_bytes» «tx_bytes» «fragment_records») (now (numbers .entry)) peer) ⌝ }
 {
-    let shape = Shape {
-        max_peers,
-        header_bytes,
-        tx_bytes,
-        fragment_records,
-    };
+    let shape = shape_of(max_peers, header_bytes, tx_bytes, fragment_records);
     number_counted(calls::drop_peer(shape, numbers, peer))
 }
 
@@ -174,15 +166,29 @@ pub extern "C" fn midici_pe_poll(
 ) -> Answer
     ensures { λ r. ⌜ polledLeft r (now (numbers .exit)) (now («out_peers» .exit)) (now («out_request_ids» .exit)) ≡ polledOf (pollCall (shapeOf «max_peers» «header_bytes» «tx_bytes» «fragment_records») (now (numbers .entry)) «now_ms» (now («out_peers» .entry)) (now («out_request_ids» .entry))) ⌝ }
 {
-    let shape = Shape {
-        max_peers,
-        header_bytes,
-        tx_bytes,
-        fragment_records,
-    };
+    let shape = shape_of(max_peers, header_bytes, tx_bytes, fragment_records);
     number_counted(poll::poll(shape, numbers, now_ms, out_peers, out_request_ids))
 }
 
+// Lists peer, request id and chunks held of each open slot, in any order: how many there are.
+#[no_mangle]
+pub extern "C" fn midici_pe_open_list(
+    max_peers: usize,
+    header_bytes: usize,
+    tx_bytes: usize,
+    fragment_records: usize,
+    numbers: &[u64],
+    out_peers: &mut [u64],
+    out_request_ids: &mut [u64],
+    out_chunks_held: &mut [u64],
+) -> Answer
+    ensures { λ r. ⌜ OpenListed (shapeOf «max_peers» «header_bytes» «tx_bytes» «fragment_records») (now (numbers .entry)) (now («out_peers» .entry)) (now («out_request_ids» .entry)) (now («out_chunks_held» .entry)) (openLeft r (now («out_peers» .exit)) (now («out_request_ids» .exit)) (now («out_chunks_held» .exit))) ⌝ }
+{
+    let shape = shape_of(max_peers, header_bytes, tx_bytes, fragment_records);
+    number_counted(open::open_list(shape, numbers, out_peers, out_request_ids, out_chunks_held))
+}
+
+// What the rooms take and what is open in them.
 #[no_mangle]
 pub extern "C" fn midici_pe_memory_stats(
     max_peers: usize,
@@ -193,12 +199,7 @@ pub extern "C" fn midici_pe_memory_stats(
 ) -> StatsAnswer
     ensures { λ r. ⌜ r ≡ statsAnswerOf (statsCall (shapeOf «max_peers» «header_bytes» «tx_bytes» «fragment_records») (now (numbers .entry))) ⌝ }
 {
-    let shape = Shape {
-        max_peers,
-        header_bytes,
-        tx_bytes,
-        fragment_records,
-    };
+    let shape = shape_of(max_peers, header_bytes, tx_bytes, fragment_records);
     stats(calls::memory_stats(shape, numbers))
 }
 
@@ -212,11 +213,6 @@ pub extern "C" fn midici_pe_reserved_bytes(
 ) -> Answer
     ensures { λ r. ⌜ r ≡ answerOf (reservedCall (shapeOf «max_peers» «header_bytes» «tx_bytes» «fragment_records»)) ⌝ }
 {
-    let shape = Shape {
-        max_peers,
-        header_bytes,
-        tx_bytes,
-        fragment_records,
-    };
+    let shape = shape_of(max_peers, header_bytes, tx_bytes, fragment_records);
     number_counted(calls::reserved_bytes(shape))
 }

@@ -1,7 +1,15 @@
 use borrow.Author.Needs.{needs}
 use Rattle.hub.proofs.table.midici_pe_cancel.Statement.{statement}
 use Rattle.hub.proofs.table.midici_pe_cancel.Tie as tie
+use mathlib.Core.Path.{sym}
 use Rattle.hub.proofs.LeftLaws.{cancels}
+
+abbrev called : tie.After-cancelled → tie.After-cancel
+called c = c .before .before .before
+
+-- src/table.rt:1:1
+shape-of-requires : tie.Need-shape-of-requires
+shape-of-requires c κs = search needs
 
 -- src/table.rt:139:15
 cancel-requires : tie.Need-cancel-requires
@@ -17,7 +25,9 @@ same-length c = search needs
 
 -- src/table.rt:121:1
 returns : tie.Need-returns
-returns c = cancels _ _ _ _ (c .cancelled .ensures) (c .before .before .before .cancel .ensures)
+returns c =
+    rw (sym (called c .before .before .shape-of .ensures))
+    (cancels _ _ _ _ (c .cancelled .ensures) (called c .cancel .ensures))
 
 pub midici-pe-cancel-spec : {M : Type 1} → statement M
-midici-pe-cancel-spec = tie.close (tie.spec cancel-requires cancelled-requires same-length returns)
+midici-pe-cancel-spec = tie.close (tie.spec shape-of-requires cancel-requires cancelled-requires same-length returns)

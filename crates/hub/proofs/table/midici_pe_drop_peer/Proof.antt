@@ -1,7 +1,15 @@
 use borrow.Author.Needs.{needs}
 use Rattle.hub.proofs.table.midici_pe_drop_peer.Statement.{statement}
 use Rattle.hub.proofs.table.midici_pe_drop_peer.Tie as tie
+use mathlib.Core.Path.{sym}
 use Rattle.hub.proofs.LeftLaws.{drops}
+
+abbrev called : tie.After-number-counted → tie.After-drop-peer
+called c = c .before .before .before
+
+-- src/table.rt:1:1
+shape-of-requires : tie.Need-shape-of-requires
+shape-of-requires c κs = search needs
 
 -- src/table.rt:160:20
 drop-peer-requires : tie.Need-drop-peer-requires
@@ -17,8 +25,10 @@ same-length c = search needs
 
 -- src/table.rt:143:1
 returns : tie.Need-returns
-returns c = drops _ _ _ _ (c .number-counted .ensures) (c .before .before .before .drop-peer .ensures)
+returns c =
+    rw (sym (called c .before .before .shape-of .ensures))
+    (drops _ _ _ _ (c .number-counted .ensures) (called c .drop-peer .ensures))
 
 pub midici-pe-drop-peer-spec : {M : Type 1} → statement M
 midici-pe-drop-peer-spec =
-    tie.close (tie.spec drop-peer-requires number-counted-requires same-length returns)
+    tie.close (tie.spec shape-of-requires drop-peer-requires number-counted-requires same-length returns)

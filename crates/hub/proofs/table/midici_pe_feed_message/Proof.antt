@@ -1,7 +1,15 @@
 use borrow.Author.Needs.{needs}
 use Rattle.hub.proofs.table.midici_pe_feed_message.Statement.{statement}
 use Rattle.hub.proofs.table.midici_pe_feed_message.Tie as tie
+use mathlib.Core.Path.{sym}
 use Rattle.hub.proofs.LeftLaws.{feeds}
+
+abbrev called : tie.After-fed → tie.After-feed-message
+called c = c .before .before .before .before .before .before .before .before .before .before .before .before .before
+
+-- src/table.rt:1:1
+shape-of-requires : tie.Need-shape-of-requires
+shape-of-requires c κs = search needs
 
 -- src/table.rt:107:9
 feed-message-requires : tie.Need-feed-message-requires
@@ -37,12 +45,15 @@ same-length-6 c = search needs
 
 -- src/table.rt:84:1
 returns : tie.Need-returns
-returns c = feeds _ _ _ _ (c .fed .ensures) (c .before .before .before .before .before .before .before .before .before .before .before .before .before .feed-message .ensures)
+returns c =
+    rw (sym (called c .before .before .before .before .before .before .before .shape-of .ensures))
+    (feeds _ _ _ _ (c .fed .ensures) (called c .feed-message .ensures))
 
 pub midici-pe-feed-message-spec : {M : Type 1} → statement M
 midici-pe-feed-message-spec =
     tie.close
     (tie.spec
+    shape-of-requires
     feed-message-requires
     fed-requires
     same-length

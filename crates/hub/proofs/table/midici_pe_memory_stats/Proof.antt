@@ -1,8 +1,12 @@
 use borrow.Author.Needs.{needs}
 use Rattle.hub.proofs.table.midici_pe_memory_stats.Statement.{statement}
 use Rattle.hub.proofs.table.midici_pe_memory_stats.Tie as tie
-use mathlib.Core.Path.{ap, _∙_}
+use mathlib.Core.Path.{sym, ap, _∙_}
 use Rattle.hub.specs.Answers.{statsAnswerOf}
+
+-- src/table.rt:1:1
+shape-of-requires : tie.Need-shape-of-requires
+shape-of-requires c κs = search needs
 
 -- src/table.rt:202:11
 memory-stats-requires : tie.Need-memory-stats-requires
@@ -14,7 +18,9 @@ stats-requires c κs = search needs
 
 -- src/table.rt:186:1
 returns : tie.Need-returns
-returns c = c .stats .ensures ∙ ap statsAnswerOf (c .before .memory-stats .ensures)
+returns c =
+    rw (sym (c .before .before .shape-of .ensures))
+    (c .stats .ensures ∙ ap statsAnswerOf (c .before .memory-stats .ensures))
 
 pub midici-pe-memory-stats-spec : {M : Type 1} → statement M
-midici-pe-memory-stats-spec = tie.close (tie.spec memory-stats-requires stats-requires returns)
+midici-pe-memory-stats-spec = tie.close (tie.spec shape-of-requires memory-stats-requires stats-requires returns)

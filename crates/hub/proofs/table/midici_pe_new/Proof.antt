@@ -1,7 +1,15 @@
 use borrow.Author.Needs.{needs}
 use Rattle.hub.proofs.table.midici_pe_new.Statement.{statement}
 use Rattle.hub.proofs.table.midici_pe_new.Tie as tie
+use mathlib.Core.Path.{sym}
 use Rattle.hub.proofs.LeftLaws.{makes}
+
+abbrev called : tie.After-made → tie.After-new
+called c = c .before .before .before .before .before
+
+-- src/table.rt:1:1
+shape-of-requires : tie.Need-shape-of-requires
+shape-of-requires c κs = search needs
 
 -- src/table.rt:41:10
 new-requires : tie.Need-new-requires
@@ -21,8 +29,10 @@ same-length-2 c = search needs
 
 -- src/table.rt:22:1
 returns : tie.Need-returns
-returns c = makes _ _ _ _ _ (c .made .ensures) (c .before .before .before .before .before .new .ensures)
+returns c =
+    rw (sym (called c .before .before .before .shape-of .ensures))
+    (makes _ _ _ _ _ (c .made .ensures) (called c .new .ensures))
 
 pub midici-pe-new-spec : {M : Type 1} → statement M
 midici-pe-new-spec =
-    tie.close (tie.spec new-requires made-requires same-length same-length-2 returns)
+    tie.close (tie.spec shape-of-requires new-requires made-requires same-length same-length-2 returns)

@@ -1,7 +1,15 @@
 use borrow.Author.Needs.{needs}
 use Rattle.hub.proofs.table.midici_pe_poll.Statement.{statement}
 use Rattle.hub.proofs.table.midici_pe_poll.Tie as tie
+use mathlib.Core.Path.{sym}
 use Rattle.hub.proofs.LeftLaws.{polls}
+
+abbrev called : tie.After-number-counted → tie.After-poll
+called c = c .before .before .before .before .before .before .before
+
+-- src/table.rt:1:1
+shape-of-requires : tie.Need-shape-of-requires
+shape-of-requires c κs = search needs
 
 -- src/table.rt:183:20
 poll-requires : tie.Need-poll-requires
@@ -25,12 +33,15 @@ same-length-3 c = search needs
 
 -- src/table.rt:164:1
 returns : tie.Need-returns
-returns c = polls _ _ _ _ _ _ (c .number-counted .ensures) (c .before .before .before .before .before .before .before .poll .ensures)
+returns c =
+    rw (sym (called c .before .before .before .before .shape-of .ensures))
+    (polls _ _ _ _ _ _ (c .number-counted .ensures) (called c .poll .ensures))
 
 pub midici-pe-poll-spec : {M : Type 1} → statement M
 midici-pe-poll-spec =
     tie.close
     (tie.spec
+    shape-of-requires
     poll-requires
     number-counted-requires
     same-length
