@@ -1,0 +1,242 @@
+/* MIDI-CI Property Exchange: cut a header and a body into chunks, write messages, and join what arrives.
+ *
+ * Words. A peer is a device, named by its MUID, a number of 28 bits. A list is the header and the body of one exchange.
+ * A chunk is one piece of a list. A message is a CI header of 13 bytes with a chunk behind it, without F0 and F7.
+ *
+ * Memory. The library allocates nothing, keeps no pointer after a call and has no state of its own. All memory is yours
+ * and is lent for the time of a call. It has no I/O, takes no locks and never ends the program.
+ *
+ * Slices. A slice is a pointer and a length; the length counts elements, not bytes. A pointer may be NULL where the length
+ * is 0. Otherwise it points to that many elements, aligned as C aligns their type. A slice that is not const must not
+ * overlap another slice of the same call. A call writes within the slices that are not const, and nowhere else.
+ *
+ * Threads. A table is four slices of memory. Calls on one table must not run at the same time; calls on different tables
+ * may.
+ *
+ * Answers. Every struct begins with `refusal`: 0, or the number that says why the call was turned down (enum
+ * midici_pe_refusal). With a refusal every other field is 0, except `value` with number 24. Unless a call says otherwise,
+ * a refused call leaves all lent memory as it was. No argument is too wrong to ask: every call answers. (A pointer that
+ * does not point to as many elements as its length says is beyond what a call can see.) Compare fields, not the bytes of
+ * the structs: there is padding between fields. */
+#ifndef MIDICI_PE_H
+#define MIDICI_PE_H
+
+#include <stddef.h>
+#include <stdint.h>
+
+#ifdef __cplusplus
+extern "C" {
+#endif
+
+/* Why a call was refused. */
+enum midici_pe_refusal {
+    MIDICI_PE_OK = 0,                      /* not refused */
+
+    MIDICI_PE_BAD_FIELD = 1,               /* a byte above 7F, a number out of range, or bytes left over behind a chunk */
+    MIDICI_PE_TRUNCATED = 2,               /* a chunk ends too early */
+    MIDICI_PE_BUFFER_TOO_SMALL = 3,        /* `out` is too short */
+    MIDICI_PE_HEADER_TOO_LARGE = 4,        /* the header does not fit into the first chunk, or into the table */
+    MIDICI_PE_OVERSIZE = 5,                /* too many chunks, or the body does not fit into the table */
+    MIDICI_PE_TOO_MANY_CONCURRENT = 6,     /* the peer has four lists open, none with this request id */
+    MIDICI_PE_PEER_TABLE_FULL = 7,         /* every peer record is taken by another peer with a list open */
+    MIDICI_PE_INCONSISTENT_CHUNKING = 8,   /* a chunk that does not go with those before it, or with itself */
+    MIDICI_PE_BAD_MCODED7 = 9,             /* bytes that are no Mcoded7 (no call of this header answers it) */
+
+    MIDICI_PE_CI_TRUNCATED = 21,           /* a message of fewer than 13 bytes */
+    MIDICI_PE_CI_NOT_UNIVERSAL_SYSEX = 22, /* a message that does not begin with 7E */
+    MIDICI_PE_CI_NOT_MIDI_CI = 23,         /* a message whose third byte is not 0D */
+    MIDICI_PE_CI_UNSUPPORTED_SUB_ID2 = 24, /* a kind of message that carries no chunk; `value` is the kind */
+    MIDICI_PE_CI_BAD_LENGTH = 25,          /* a CI message lacks bytes (no call of this header answers it) */
+    MIDICI_PE_CI_BAD_FIELD = 26,           /* a byte above 7F in a message's source or destination */
+    MIDICI_PE_CI_BUFFER_TOO_SMALL = 27,    /* no room for a CI message (no call of this header answers it) */
+    MIDICI_PE_CI_INVALID_MUID = 28,        /* a peer, source or destination above 0FFFFFFF */
+
+    MIDICI_PE_CHUNK_OUT_OF_RANGE = 29,     /* no chunk of the list has this number */
+    MIDICI_PE_BAD_SHAPE = 30,              /* the shape is out of range, or a lent slice is too short for it */
+    MIDICI_PE_DAMAGED_SLOT = 31            /* the table's memory holds what no call leaves there: somebody else wrote it */
+};
+
+/* What most calls answer. `value` is the kind of message with refusal 24, else 0. What `count` counts is said at each call;
+ * with a refusal it is 0. */
+typedef struct midici_pe_answer {
+    uint8_t refusal;
+    uint8_t value;
+    uint64_t count;
+} midici_pe_answer;
+
+/* What feeding answers. `whole` is 1 when the list is complete: then `header_len` and `body_len` are its lengths, and the
+ * two outputs begin with it. `whole` is 0 while chunks are missing. */
+typedef struct midici_pe_fed {
+    uint8_t refusal;
+    uint8_t value;
+    uint8_t whole;
+    uint64_t header_len;
+    uint64_t body_len;
+} midici_pe_fed;
+
+/* What a table takes and holds. */
+typedef struct midici_pe_stats {
+    uint8_t refusal;
+    uint8_t value;
+    uint64_t reserved_bytes;
+    uint64_t active_bytes;
+    uint64_t active_slots;
+} midici_pe_stats;
+
+/* A request id, and the counter after it. */
+typedef struct midici_pe_request_id {
+    uint8_t request_id;
+    uint8_t counter;
+} midici_pe_request_id;
+
+/* ---- Sending ---- */
+
+/* The longest chunk that is cut, and the longest message with such a chunk (F0 and F7 come on top of it). */
+#define MIDICI_PE_CHUNK_LEN 4081
+#define MIDICI_PE_MESSAGE_LEN 4094
+
+/* The bytes of a CI header. */
+#define MIDICI_PE_CI_HEADER_LEN 13
+
+/* The largest MUID. */
+#define MIDICI_PE_MUID_MAX 0x0FFFFFFFu
+
+/* Hands out a request id: `request_id` is the counter as it came in, `counter` is the counter for the next call. The next
+ * counter is one more, from 1 to 127 and then 1 again. Start with 1; any byte is taken. */
+midici_pe_request_id midici_pe_alloc_out_request_id(uint8_t counter);
+
+/* `count` is how many chunks the header and the body are cut into (1 to 16,383). No message with one of them is longer than
+ * `max_sysex` bytes, F0 and F7 included; `max_sysex` is taken as 128 if it is less, and as 4,096 if it is more.
+ * Refusals: 1 request_id above 7F, or a header byte above 7F; 4 the header does not fit into the first chunk; 5 more than
+ * 16,383 chunks. */
+midici_pe_answer midici_pe_chunk_count(uint8_t request_id, const uint8_t *header, size_t header_len, const uint8_t *body,
+                                       size_t body_len, uint32_t max_sysex);
+
+/* Writes chunk `chunk_num` (1 is the first) of the same list into `out`. `count` is how many bytes it has, at most
+ * MIDICI_PE_CHUNK_LEN; the rest of `out` keeps its bytes.
+ * Refusals: those of midici_pe_chunk_count; 29 chunk_num is 0 or above the count; 3 `out` is too short. `out` is then as it
+ * was. */
+midici_pe_answer midici_pe_split_chunk(uint8_t request_id, const uint8_t *header, size_t header_len, const uint8_t *body,
+                                       size_t body_len, uint32_t max_sysex, uint16_t chunk_num, uint8_t *out,
+                                       size_t out_len);
+
+/* Writes a message into `out`: a CI header (device 7F, kind `sub_id2`, version 2, source, destination) and a chunk of the
+ * given fields. `count` is how many bytes it has, 22 + header_len + property_len; the rest of `out` keeps its bytes.
+ * The kinds that carry a chunk are 34 to 39 and 3F (hexadecimal). num_chunks 0 means that it is not known yet.
+ * To send a chunk of midici_pe_split_chunk, write a message with an empty chunk (1 of 1, no header, no property), and let
+ * midici_pe_split_chunk write behind its first MIDICI_PE_CI_HEADER_LEN bytes.
+ * Refusals: 28 source or dest above 0FFFFFFF; 24 a kind that carries no chunk; 1 request_id above 7F, header_len,
+ * property_len, num_chunks or chunk_num above 16,383, or a header byte above 7F; 8 a header with a chunk_num other than 1;
+ * 3 `out` is too short. `out` is then as it was. */
+midici_pe_answer midici_pe_encode_message(uint8_t sub_id2, uint32_t source, uint32_t dest, uint8_t request_id,
+                                          const uint8_t *header, size_t header_len, uint16_t num_chunks,
+                                          uint16_t chunk_num, const uint8_t *property, size_t property_len, uint8_t *out,
+                                          size_t out_len);
+
+/* ---- Receiving ---- */
+
+/* A table joins the chunks of up to `max_peers` peers, with up to four open lists each. Its shape is four numbers, given
+ * again with every call, always the same:
+ *   max_peers         0 to 16
+ *   header_bytes      room for the header of one list, 0 to 4,096
+ *   tx_bytes          room for the body of one list, 0 to 65,536
+ *   fragment_records  how many chunks one open list can hold, 0 to 2,048
+ * Its memory is four slices of at least the lengths below; longer ones are fine, and what is past the length is never
+ * touched. midici_pe_new makes a table in them. From then on only the calls below may write them; you may move or copy a
+ * table between calls. Every call is lent just the slices that it needs. */
+#define MIDICI_PE_NUMBERS_LEN(max_peers) (1 + 38 * (max_peers))                                 /* uint64_t */
+#define MIDICI_PE_INDEX_LEN(max_peers, fragment_records) (4 * (max_peers) * (fragment_records)) /* uint64_t */
+#define MIDICI_PE_HEADERS_LEN(max_peers, header_bytes) (4 * (max_peers) * (header_bytes))       /* uint8_t */
+#define MIDICI_PE_ARENAS_LEN(max_peers, tx_bytes) (4 * (max_peers) * (tx_bytes))                /* uint8_t */
+
+/* The least length of each output of a poll and of an open list. */
+#define MIDICI_PE_PLACES(max_peers) (4 * (max_peers))
+
+/* The full size. */
+#define MIDICI_PE_MAX_PEERS 16
+#define MIDICI_PE_HEADER_BYTES 4096
+#define MIDICI_PE_TX_BYTES 65536
+#define MIDICI_PE_FRAGMENT_RECORDS 2048
+
+/* A list that gets no chunk for so many milliseconds is closed by the next poll. */
+#define MIDICI_PE_TIMEOUT_MS 3000
+
+/* Makes an empty table. It writes `numbers` and `index`; `headers` and `arenas` are measured and keep their bytes. Called
+ * again on the same memory, it makes a new table, and what was open is gone. `count` is 0.
+ * Refusals: 30. Everything is then as it was. */
+midici_pe_answer midici_pe_new(size_t max_peers, size_t header_bytes, size_t tx_bytes, size_t fragment_records,
+                               uint64_t *numbers, size_t numbers_len, uint64_t *index, size_t index_len,
+                               const uint8_t *headers, size_t headers_len, const uint8_t *arenas, size_t arenas_len);
+
+/* Feeds a chunk that came from a peer at the time `now_ms`, in milliseconds of a clock of yours. If it completes its list,
+ * `whole` is 1, the header stands in out_header, the body in out_body, in the order of chunk numbers, and the list is
+ * closed. out_header has at least header_bytes elements, out_body at least tx_bytes. Past the list, and with any other
+ * answer, both outputs keep their bytes.
+ * Refusals that leave everything as it was: 30; 28 peer above 0FFFFFFF; 2, 1 and 8 bytes that are no chunk, 8 being a
+ * header on a chunk other than the first; 7; 6; 31.
+ * Refusals of a chunk that reached its list: 4 a header longer than header_bytes; 8 another header or another count than
+ * before, chunk number 0, or a chunk that is there already; 5 no room for another chunk, or for its bytes. The list has
+ * then been opened, if it was not open, its time is now_ms, and it may have taken the chunk's header and count, but not its
+ * bytes. It stays open and keeps what it holds, with two exceptions: chunk number 0 and a body longer than tx_bytes close
+ * it. */
+midici_pe_fed midici_pe_feed(size_t max_peers, size_t header_bytes, size_t tx_bytes, size_t fragment_records,
+                             uint64_t *numbers, size_t numbers_len, uint64_t *index, size_t index_len, uint8_t *headers,
+                             size_t headers_len, uint8_t *arenas, size_t arenas_len, uint32_t peer,
+                             const uint8_t *raw_chunk, size_t raw_chunk_len, uint64_t now_ms, uint8_t *out_header,
+                             size_t out_header_len, uint8_t *out_body, size_t out_body_len);
+
+/* Feeds the chunk of a whole message (without F0 and F7) as one from its source. The destination is not looked at: a message
+ * for somebody else is yours to sort out before.
+ * Refusals: 30; then 21, 22, 23, 26 and 24 (`value` is the kind), which leave everything as it was; then those of
+ * midici_pe_feed, with what they leave. */
+midici_pe_fed midici_pe_feed_message(size_t max_peers, size_t header_bytes, size_t tx_bytes, size_t fragment_records,
+                                     uint64_t *numbers, size_t numbers_len, uint64_t *index, size_t index_len,
+                                     uint8_t *headers, size_t headers_len, uint8_t *arenas, size_t arenas_len,
+                                     const uint8_t *body, size_t body_len, uint64_t now_ms, uint8_t *out_header,
+                                     size_t out_header_len, uint8_t *out_body, size_t out_body_len);
+
+/* Closes the list that a peer has open with a request id. `count` is 1 if there was one, else 0.
+ * Refusals: 30; 28 peer above 0FFFFFFF. Everything is then as it was. */
+midici_pe_answer midici_pe_cancel(size_t max_peers, size_t header_bytes, size_t tx_bytes, size_t fragment_records,
+                                  uint64_t *numbers, size_t numbers_len, uint32_t peer, uint8_t request_id);
+
+/* Closes all lists of a peer and frees its record. `count` is how many were open.
+ * Refusals: 30; 28 peer above 0FFFFFFF. Everything is then as it was. */
+midici_pe_answer midici_pe_drop_peer(size_t max_peers, size_t header_bytes, size_t tx_bytes, size_t fragment_records,
+                                     uint64_t *numbers, size_t numbers_len, uint32_t peer);
+
+/* Closes each list whose last chunk came MIDICI_PE_TIMEOUT_MS or more before now_ms (none, if the clock went back). `count`
+ * is how many there were. Peer and request id of each stand at the same place of the two outputs; the list that has waited
+ * longest is the first. The outputs have at least MIDICI_PE_PLACES(max_peers) elements; places past the count keep their
+ * values.
+ * Refusals: 30, also for a short output. Everything is then as it was. */
+midici_pe_answer midici_pe_poll(size_t max_peers, size_t header_bytes, size_t tx_bytes, size_t fragment_records,
+                                uint64_t *numbers, size_t numbers_len, uint64_t now_ms, uint64_t *out_peers,
+                                size_t out_peers_len, uint64_t *out_request_ids, size_t out_request_ids_len);
+
+/* Lists the open lists, in any order: peer, request id and how many chunks it holds stand at the same place of the three
+ * outputs. `count` is how many there are. The outputs have at least MIDICI_PE_PLACES(max_peers) elements; places past the
+ * count keep their values. The table stays as it is.
+ * Refusals: 30, also for a short output. Everything is then as it was. */
+midici_pe_answer midici_pe_open_list(size_t max_peers, size_t header_bytes, size_t tx_bytes, size_t fragment_records,
+                                     const uint64_t *numbers, size_t numbers_len, uint64_t *out_peers,
+                                     size_t out_peers_len, uint64_t *out_request_ids, size_t out_request_ids_len,
+                                     uint64_t *out_chunks_held, size_t out_chunks_held_len);
+
+/* What the table takes and holds: reserved_bytes as midici_pe_reserved_bytes counts it; active_bytes, the header and body
+ * bytes of all open lists and 8 for each chunk held; active_slots, how many lists are open. Nothing is written.
+ * Refusals: 30. */
+midici_pe_stats midici_pe_memory_stats(size_t max_peers, size_t header_bytes, size_t tx_bytes, size_t fragment_records,
+                                       const uint64_t *numbers, size_t numbers_len);
+
+/* `count` is how many bytes the rooms of a table take, 4 * max_peers * (header_bytes + tx_bytes + 8 * fragment_records):
+ * its index, headers and arenas.
+ * Refusals: 30. */
+midici_pe_answer midici_pe_reserved_bytes(size_t max_peers, size_t header_bytes, size_t tx_bytes,
+                                          size_t fragment_records);
+
+#ifdef __cplusplus
+}
+#endif
+
+#endif
