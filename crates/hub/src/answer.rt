@@ -3,7 +3,6 @@ use pe_chunker::ChunkCount;
 use pe_reassembler::calls::Cancelled;
 use pe_reassembler::calls::Count;
 use pe_reassembler::calls::Made;
-use pe_reassembler::calls::MemoryStats;
 use pe_reassembler::calls::Stats;
 use pe_slot::slot::Fed;
 use pe_wire::error::PeError;
@@ -13,7 +12,7 @@ ghost use Rattle.seven_bit.specs.Reply.{granted, refused};
 ghost use Rattle.pe_wire.specs.Errors.{peNumber, peValue};
 ghost use Rattle.pe_wire.specs.Wire.{encodedTold};
 ghost use Rattle.pe_chunker.specs.Cut.{countTold};
-ghost use Rattle.pe_slot.specs.Feed.{lengths, fedTold};
+ghost use Rattle.pe_slot.specs.Feed.{fedTold};
 ghost use Rattle.pe_reassembler.specs.Calls.{madeTold, cancelledTold, statsTold};
 ghost use Rattle.pe_reassembler.specs.Calls.{countTold as numberTold};
 ghost use Rattle.hub.specs.Answers.{answerOf, asCount, fedAnswer, fedAnswerOf, statsAnswerOf};
@@ -24,6 +23,26 @@ pub struct Answer {
     pub refusal: u8,
     pub value: u8,
     pub count: u64,
+}
+
+// What feeding a chunk answers: whole is 1 with a whole list, whose lengths then stand here.
+#[repr(C)]
+pub struct FedAnswer {
+    pub refusal: u8,
+    pub value: u8,
+    pub whole: u8,
+    pub header_len: u64,
+    pub body_len: u64,
+}
+
+// The totals; all 0 with a refusal.
+#[repr(C)]
+pub struct StatsAnswer {
+    pub refusal: u8,
+    pub value: u8,
+    pub reserved_bytes: u64,
+    pub active_bytes: u64,
+    pub active_slots: u64,
 }
 
 pub fn counted(count: u64) -> Answer
@@ -72,26 +91,6 @@ pub fn chunks_counted(a: ChunkCount) -> Answer
     }
 }
 
-// What feeding a chunk answers: whole is 1 with a whole list, whose lengths then stand here.
-#[repr(C)]
-pub struct FedAnswer {
-    pub refusal: u8,
-    pub value: u8,
-    pub whole: u8,
-    pub header_len: u64,
-    pub body_len: u64,
-}
-
-// The totals; all 0 with a refusal.
-#[repr(C)]
-pub struct StatsAnswer {
-    pub refusal: u8,
-    pub value: u8,
-    pub reserved_bytes: u64,
-    pub active_bytes: u64,
-    pub active_slots: u64,
-}
-
 // Nothing is counted.
 pub fn made(a: Made) -> Answer
     ensures { λ r. ⌜ r ≡ answerOf (madeTold a) ⌝ }
@@ -121,18 +120,6 @@ pub fn number_counted(a: Count) -> Answer
     }
 }
 
-fn fed_whole(header_len: usize, body_len: usize) -> FedAnswer
-    ensures { λ r. ⌜ r ≡ fedAnswerOf (granted (lengths «header_len» «body_len»)) ⌝ }
-{
-    FedAnswer {
-        refusal: 0,
-        value: 0,
-        whole: 1,
-        header_len: header_len as u64,
-        body_len: body_len as u64,
-    }
-}
-
 // No whole list: waiting, or a refusal.
 fn fed_part(refusal: u8, value: u8) -> FedAnswer
     ensures { λ r. ⌜ r ≡ fedAnswer refusal value 0 0 0 ⌝ }
@@ -151,32 +138,14 @@ pub fn fed(a: Fed) -> FedAnswer
 {
     match a {
         Fed::Waiting => fed_part(0, 0),
-        Fed::Whole(header_len, body_len) => fed_whole(header_len, body_len),
+        Fed::Whole(header_len, body_len) => FedAnswer {
+            refusal: 0,
+            value: 0,
+            whole: 1,
+            header_len: header_len as u64,
+            body_len: body_len as u64,
+        },
         Fed::Refused(e) => fed_part(e.number(), e.value()),
-    }
-}
-
-fn stats_told(totals: MemoryStats) -> StatsAnswer
-    ensures { λ r. ⌜ r ≡ statsAnswerOf (statsTold (Stats.Totals totals)) ⌝ }
-{
-    StatsAnswer {
-        refusal: 0,
-        value: 0,
-        reserved_bytes: totals.reserved_bytes,
-        active_bytes: totals.active_bytes,
-        active_slots: totals.active_slots,
-    }
-}
-
-fn stats_refused(refusal: u8, value: u8) -> StatsAnswer
-    ensures { λ r. ⌜ r ≡ statsAnswerOf (refused refusal value) ⌝ }
-{
-    StatsAnswer {
-        refusal,
-        value,
-        reserved_bytes: 0,
-        active_bytes: 0,
-        active_slots: 0,
     }
 }
 
@@ -184,7 +153,19 @@ pub fn stats(a: Stats) -> StatsAnswer
     ensures { λ r. ⌜ r ≡ statsAnswerOf (statsTold a) ⌝ }
 {
     match a {
-        Stats::Totals(totals) => stats_told(totals),
-        Stats::Refused(e) => stats_refused(e.number(), e.value()),
+        Stats::Totals(totals) => StatsAnswer {
+            refusal: 0,
+            value: 0,
+            reserved_bytes: totals.reserved_bytes,
+            active_bytes: totals.active_bytes,
+            active_slots: totals.active_slots,
+        },
+        Stats::Refused(e) => StatsAnswer {
+            refusal: e.number(),
+            value: e.value(),
+            reserved_bytes: 0,
+            active_bytes: 0,
+            active_slots: 0,
+        },
     }
 }

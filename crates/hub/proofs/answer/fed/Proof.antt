@@ -1,6 +1,7 @@
 use borrow.Author.Needs.{needs}
 use Rattle.hub.proofs.answer.fed.Statement.{statement}
 use Rattle.hub.proofs.answer.fed.Tie as tie
+use mathlib.Core.Path.{refl}
 use Rattle.pe_slot.specs.declared.slot.Fed.{Fed}
 use Rattle.pe_slot.specs.Feed.{fedTold}
 use Rattle.hub.specs.declared.answer.FedAnswer.{FedAnswer}
@@ -10,47 +11,43 @@ use Rattle.hub.proofs.AnswerLaws.{matched}
 abbrev tells : Fed → FedAnswer
 tells a = fedAnswerOf (fedTold a)
 
--- src/answer.rt:152:25
+-- src/answer.rt:140:25
 enum-told : tie.Need-enum-told
 enum-told c = search needs
 
--- src/answer.rt:152:25
+-- src/answer.rt:140:25
 fed-part-requires : tie.Need-fed-part-requires
 fed-part-requires c κs = search needs
 
--- src/answer.rt:153:20
+-- src/answer.rt:141:20
 enum-known-a : tie.Need-enum-known-a
 enum-known-a c = search needs
 
--- src/answer.rt:153:45
-fed-whole-requires : tie.Need-fed-whole-requires
-fed-whole-requires c κs = search needs
-
--- src/answer.rt:154:22
+-- src/answer.rt:148:22
 enum-known-a-2 : tie.Need-enum-known-a-2
 enum-known-a-2 c = search needs
 
--- src/answer.rt:154:37
+-- src/answer.rt:148:37
 number-requires : tie.Need-number-requires
 number-requires c κs = search needs
 
--- src/answer.rt:154:49
+-- src/answer.rt:148:49
 value-requires : tie.Need-value-requires
 value-requires c κs = search needs
 
--- src/answer.rt:154:28
+-- src/answer.rt:148:28
 fed-part-requires-2 : tie.Need-fed-part-requires-2
 fed-part-requires-2 c κs = search needs
 
--- src/answer.rt:148:1
+-- src/answer.rt:136:1
 returns : tie.Need-returns
 returns c = matched tells (c .before .enum-told .given .1) (c .fed-part .ensures)
 
--- src/answer.rt:148:1
+-- src/answer.rt:136:1
 returns-2 : tie.Need-returns-2
-returns-2 c = matched tells (c .before .before .a .given .1) (c .fed-whole .ensures)
+returns-2 c = matched tells (c .before .a .given .1) refl
 
--- src/answer.rt:148:1
+-- src/answer.rt:136:1
 returns-3 : tie.Need-returns-3
 returns-3 c = matched tells (c .before .before .before .before .a2 .given .1) (rw (c .fed-part2 .ensures, c .before .value .ensures, c .before .before .number .ensures))
 
@@ -61,7 +58,6 @@ fed-spec =
     enum-told
     fed-part-requires
     enum-known-a
-    fed-whole-requires
     enum-known-a-2
     number-requires
     value-requires

@@ -1,6 +1,7 @@
 use borrow.Author.Needs.{needs}
 use Rattle.hub.proofs.answer.stats.Statement.{statement}
 use Rattle.hub.proofs.answer.stats.Tie as tie
+use mathlib.Core.Path.{refl}
 use Rattle.pe_reassembler.specs.declared.calls.Stats.{Stats}
 use Rattle.pe_reassembler.specs.Calls.{statsTold}
 use Rattle.hub.specs.declared.answer.StatsAnswer.{StatsAnswer}
@@ -10,47 +11,31 @@ use Rattle.hub.proofs.AnswerLaws.{matched}
 abbrev tells : Stats → StatsAnswer
 tells a = statsAnswerOf (statsTold a)
 
--- src/answer.rt:186:23
+-- src/answer.rt:156:23
 enum-known-a : tie.Need-enum-known-a
 enum-known-a c = search needs
 
--- src/answer.rt:186:34
-stats-told-requires : tie.Need-stats-told-requires
-stats-told-requires c κs = search needs
-
--- src/answer.rt:187:24
+-- src/answer.rt:163:24
 enum-known-a-2 : tie.Need-enum-known-a-2
 enum-known-a-2 c = search needs
 
--- src/answer.rt:187:44
+-- src/answer.rt:164:22
 number-requires : tie.Need-number-requires
 number-requires c κs = search needs
 
--- src/answer.rt:187:56
+-- src/answer.rt:165:20
 value-requires : tie.Need-value-requires
 value-requires c κs = search needs
 
--- src/answer.rt:187:30
-stats-refused-requires : tie.Need-stats-refused-requires
-stats-refused-requires c κs = search needs
-
--- src/answer.rt:182:1
+-- src/answer.rt:152:1
 returns : tie.Need-returns
-returns c = matched tells (c .before .before .a .given .1) (c .stats-told .ensures)
+returns c = matched tells (c .before .a .given .1) refl
 
--- src/answer.rt:182:1
+-- src/answer.rt:152:1
 returns-2 : tie.Need-returns-2
-returns-2 c = matched tells (c .before .before .before .before .a2 .given .1) (rw (c .stats-refused .ensures, c .before .value .ensures, c .before .before .number .ensures))
+returns-2 c = matched tells (c .before .before .before .a2 .given .1) (rw (c .value .ensures, c .before .number .ensures))
 
 pub stats-spec : {M : Type 1} → statement M
 stats-spec =
     tie.close
-    (tie.spec
-    enum-known-a
-    stats-told-requires
-    enum-known-a-2
-    number-requires
-    value-requires
-    stats-refused-requires
-    returns
-    returns-2)
+    (tie.spec enum-known-a enum-known-a-2 number-requires value-requires returns returns-2)
