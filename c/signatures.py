@@ -1,0 +1,114 @@
+#!/usr/bin/env python3
+"""signatures.py: prints a C file that is an error wherever include/midici_pe.h and the Rattle source disagree.
+
+It reads the exports and their structs from crates/hub/src, the refusals' numbers and the sizes from the crates below it.
+For each export it prints a pointer of the type that the source says, set to the function that the header declares; for
+each struct, refusal and size an assertion. What a compiler does not see is compared here: the names of parameters, and
+that neither side has a function or a refusal that the other lacks."""
+import pathlib
+import re
+import sys
+
+ROOT = pathlib.Path(__file__).resolve().parent.parent
+HEADER = ROOT / 'include' / 'midici_pe.h'
+TYPES = {'u8': ('uint8_t', 1), 'u16': ('uint16_t', 2), 'u32': ('uint32_t', 4), 'u64': ('uint64_t', 8), 'usize': ('size_t', 8)}
+STRUCTS = {'Answer': 'midici_pe_answer', 'FedAnswer': 'midici_pe_fed', 'StatsAnswer': 'midici_pe_stats',
+           'RequestId': 'midici_pe_request_id'}
+
+
+def wrong(what):
+    sys.exit(f'signatures.py: {what}')
+
+
+def source(path):
+    return re.sub(r'//[^\n]*', '', (ROOT / 'crates' / path).read_text(encoding='utf-8'))
+
+
+def fields(text):
+    """NAME: TYPE, NAME: TYPE, .. as pairs."""
+    return [tuple(part.strip() for part in item.split(':', 1)) for item in text.split(',') if item.strip()]
+
+
+def c_parameters(text):
+    """Each parameter as C has it: a slice is a pointer and a length."""
+    for name, kind in fields(text):
+        part = re.fullmatch(r'&(mut )?\[(\w+)\]', kind)
+        if part:
+            yield f"{'' if part.group(1) else 'const '}{TYPES[part.group(2)][0]} *{name}"
+            yield f'size_t {name}_len'
+        elif kind in TYPES:
+            yield f'{TYPES[kind][0]} {name}'
+        else:
+            wrong(f'parameter {name} has type {kind}, for which no C type is known here')
+
+
+def check(condition):
+    print(f'static_assert({condition}, "{condition}");')
+
+
+def exports(text):
+    found = re.findall(r'#\[no_mangle\]\s*pub extern "C" fn (\w+)\(([^)]*)\) -> (\w+)', text)
+    if len(found) != text.count('#[no_mangle]'):
+        wrong('an export is not of the form that is read here')
+    return {name: (STRUCTS[result], list(c_parameters(parameters))) for name, parameters, result in found}
+
+
+def print_structs(text):
+    """Fields follow one another, each at the next multiple of its size; a struct with one more lacks a value here."""
+    for name, body in re.findall(r'#\[repr\(C\)\]\s*pub struct (\w+) \{([^}]*)\}', text):
+        struct, at, widest = STRUCTS[name], 0, 1
+        members = fields(re.sub(r'\bpub ', '', body))
+        for field, kind in members:
+            kind, size = TYPES[kind]
+            at = -(-at // size) * size
+            check(f'offsetof({struct}, {field}) == {at}')
+            print(f'{kind} *check_{struct}_{field}({struct} *s) {{ return &s->{field}; }}')
+            at, widest = at + size, max(widest, size)
+        check(f'sizeof({struct}) == {-(-at // widest) * widest}')
+        print(f"{struct} check_{struct} = {{{', '.join('0' for _ in members)}}};")
+
+
+def print_refusals(path, error, prefix):
+    cases = re.findall(rf'{error}::(\w+)(?:\(_\))? => (\d+),', source(path).split('pub fn value')[0])
+    for name, number in cases:
+        check(f"{prefix}{re.sub(r'(?<=[a-z0-9])(?=[A-Z])', '_', name).upper()} == {number}")
+    return len(cases)
+
+
+def number(path, name):
+    return int(re.search(rf'const {name}: \w+ = ([\d_]+);', source(path)).group(1))
+
+
+def print_sizes():
+    words = number('pe_reassembler/src/table.rt', 'PEER_WORDS')
+    limit = number('pe_chunker/src/lib.rt', 'MAX_SYSEX_MAX')
+    peers = 'MIDICI_PE_MAX_PEERS'
+    for macro, name in (('HEADER_BYTES', 'MAX_HEADER_BYTES'), ('TX_BYTES', 'MAX_TX_BYTES'),
+                        ('FRAGMENT_RECORDS', 'MAX_FRAGMENT_RECORDS')):
+        check(f"MIDICI_PE_{macro} == {number('pe_slot/src/slot.rt', name)}")
+    check(f'MIDICI_PE_NUMBERS_LEN({peers}) == 1 + {peers} * {words}')
+    check(f"MIDICI_PE_TIMEOUT_MS == {number('pe_reassembler/src/poll.rt', 'INACTIVITY_TIMEOUT_MS')}")
+    check(f'MIDICI_PE_MESSAGE_LEN + 2 == {limit}')
+    check('MIDICI_PE_CHUNK_LEN + MIDICI_PE_CI_HEADER_LEN == MIDICI_PE_MESSAGE_LEN')
+
+
+hub = '\n'.join(source(path.relative_to(ROOT / 'crates')) for path in sorted((ROOT / 'crates/hub/src').glob('*.rt')))
+header = ' '.join(re.sub(r'/\*.*?\*/', '', HEADER.read_text(encoding='utf-8'), flags=re.S).split())
+functions = exports(hub)
+
+print('#include <assert.h>')
+print('#include "midici_pe.h"')
+for function, (result, parameters) in functions.items():
+    listed = ', '.join(parameters)
+    print(f'{result} (*const check_{function})({listed}) = {function};')
+    if f'{result} {function}({listed});' not in header:
+        wrong(f'{HEADER.name} lacks\n{result} {function}({listed});')
+for function in re.findall(r'\b(\w+)\([^()]*\);', header):
+    if function not in functions:
+        wrong(f'{HEADER.name} declares {function}, which crates/hub does not export')
+print_structs(hub)
+refusals = print_refusals('pe_wire/src/error.rt', 'PeError', 'MIDICI_PE_')
+refusals += print_refusals('midici_core/src/error.rt', 'CiError', 'MIDICI_PE_CI_')
+if len(re.findall(r'\bMIDICI_PE_\w+ = [1-9]', header)) != refusals:
+    wrong(f'{HEADER.name} has other refusals than the source')
+print_sizes()
