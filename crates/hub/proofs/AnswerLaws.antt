@@ -1,16 +1,33 @@
--- How an export's answer follows from what its callee tells.
+-- How what an export answers and leaves follows from what its callee tells.
 -- Assumes nothing.
 use Prim.Native.Nat.{ℕ}
+use mathlib.Core.Bool.{Bool, true, false, cond}
 use mathlib.Core.List.{List}
-use mathlib.Core.Path.{_≡_, sym, ap, _∙_}
+use mathlib.Core.Path.{_≡_, refl, sym, ap, _∙_}
+use mir.Val.{boolByte}
 use Rattle.seven_bit.specs.Reply.{Reply, Outcome, outcome}
+use Rattle.pe_reassembler.specs.Open.{OpenList, listed}
+use Rattle.pe_reassembler.specs.declared.shape.Shape.{Shape}
 use Rattle.hub.specs.declared.answer.Answer.{Answer}
-use Rattle.hub.specs.Answers.{answerOf, written, writtenOf}
+use Rattle.hub.specs.Answers.{answerOf, Left, left, written, writtenOf}
+use Rattle.hub.specs.Table.{OpenListed}
 
 -- an arm of a match: what is right for its pattern is right for the value
 pub matched : {A B : Type 0} (f : A → B) {a pattern : A} {r : B} → a ≡ pattern → r ≡ f pattern → r ≡ f a
 matched f e q = q ∙ sym (ap f e)
 
--- a writer's answer, with the output that it leaves
+-- yes and no as the number that is counted
+pub flag-count : (b : Bool) → boolByte b ≡ cond b 1 0
+flag-count true = refl
+flag-count false = refl
+
+-- the callee's answer in numbers, with what it leaves
+pub leaves : {A M : Type 0} (a b : A) (m : M) {l : Left A M} → a ≡ b → left b m ≡ l → left a m ≡ l
+leaves {A} a b m p q = ap (λ (x : A). left x m) p ∙ q
+
 pub writes : (a : Answer) (reply : Reply ℕ) (out : List ℕ) (o : Outcome) → a ≡ answerOf reply → outcome reply out ≡ o → written a out ≡ writtenOf o
-writes a reply out o p q = ap (λ (x : Answer). written x out) p ∙ ap writtenOf q
+writes a reply out o p q = leaves _ _ _ p (ap writtenOf q)
+
+pub lists : (a : Answer) (reply : Reply ℕ) (out-peers out-ids out-held : List ℕ) {shape : Shape} {numbers peers ids held : List ℕ} → a ≡ answerOf reply → OpenList shape numbers peers ids held (listed reply out-peers out-ids out-held) → OpenListed shape numbers peers ids held (left a (out-peers, out-ids, out-held))
+lists a reply out-peers out-ids out-held p o =
+    record { told = listed reply out-peers out-ids out-held; open-list = o; in-numbers = leaves _ _ _ p refl }

@@ -15,15 +15,19 @@ abbrev pub answerOf : Reply ℕ → Answer
 answerOf (granted n) = record { refusal = 0; value = 0; count = n }
 answerOf (refused number value) = record { refusal = number; value = value; count = 0 }
 
+-- What a call leaves: its answer in numbers, and all that is lent to be written.
+pub record Left (A M : Type 0) : Type 0 where
+  pub answer : A
+  pub memory : M
+
+abbrev pub left : {A M : Type 0} → A → M → Left A M
+left answer m = record { answer = answer; memory = m }
+
 -- A writer's answer, and what its lent output holds.
-pub record Written : Type 0 where
-  pub answer : Answer
-  pub out : List ℕ
+abbrev pub written : Answer → List ℕ → Left Answer (List ℕ)
+written answer out = left answer out
 
-abbrev pub written : Answer → List ℕ → Written
-written answer out = record { answer = answer; out = out }
-
-abbrev pub writtenOf : Outcome → Written
+abbrev pub writtenOf : Outcome → Left Answer (List ℕ)
 writtenOf o = written (answerOf (o .answer)) (o .out)
 
 -- Yes counts 1, no 0.

@@ -8,8 +8,7 @@ use Rattle.pe_reassembler.specs.Calls.{cancelledTold}
 use Rattle.hub.specs.declared.answer.Answer.{Answer}
 use Rattle.seven_bit.specs.Reply.{granted}
 use Rattle.hub.specs.Answers.{answerOf, asCount}
-use Rattle.hub.proofs.AnswerLaws.{matched}
-use Rattle.hub.proofs.LeftLaws.{flag-count}
+use Rattle.hub.proofs.AnswerLaws.{matched, flag-count}
 
 abbrev tells : Cancelled → Answer
 tells a = answerOf (asCount (cancelledTold a))

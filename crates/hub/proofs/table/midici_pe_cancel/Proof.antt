@@ -1,8 +1,9 @@
 use borrow.Author.Needs.{needs}
 use Rattle.hub.proofs.table.midici_pe_cancel.Statement.{statement}
 use Rattle.hub.proofs.table.midici_pe_cancel.Tie as tie
-use mathlib.Core.Path.{sym}
-use Rattle.hub.proofs.LeftLaws.{cancels}
+use mathlib.Core.Path.{sym, ap}
+use Rattle.hub.specs.Table.{cancelledOf}
+use Rattle.hub.proofs.AnswerLaws.{leaves}
 
 abbrev called : tie.After-cancelled → tie.After-cancel
 called c = c .before .before .before
@@ -27,7 +28,7 @@ same-length c = search needs
 returns : tie.Need-returns
 returns c =
     rw (sym (called c .before .before .shape-of .ensures))
-    (cancels _ _ _ _ (c .cancelled .ensures) (called c .cancel .ensures))
+    (leaves _ _ _ (c .cancelled .ensures) (ap cancelledOf (called c .cancel .ensures)))
 
 pub midici-pe-cancel-spec : {M : Type 1} → statement M
 midici-pe-cancel-spec = tie.close (tie.spec shape-of-requires cancel-requires cancelled-requires same-length returns)

@@ -1,8 +1,9 @@
 use borrow.Author.Needs.{needs}
 use Rattle.hub.proofs.table.midici_pe_drop_peer.Statement.{statement}
 use Rattle.hub.proofs.table.midici_pe_drop_peer.Tie as tie
-use mathlib.Core.Path.{sym}
-use Rattle.hub.proofs.LeftLaws.{drops}
+use mathlib.Core.Path.{sym, ap}
+use Rattle.hub.specs.Table.{droppedOf}
+use Rattle.hub.proofs.AnswerLaws.{leaves}
 
 abbrev called : tie.After-number-counted → tie.After-drop-peer
 called c = c .before .before .before
@@ -27,7 +28,7 @@ same-length c = search needs
 returns : tie.Need-returns
 returns c =
     rw (sym (called c .before .before .shape-of .ensures))
-    (drops _ _ _ _ (c .number-counted .ensures) (called c .drop-peer .ensures))
+    (leaves _ _ _ (c .number-counted .ensures) (ap droppedOf (called c .drop-peer .ensures)))
 
 pub midici-pe-drop-peer-spec : {M : Type 1} → statement M
 midici-pe-drop-peer-spec =

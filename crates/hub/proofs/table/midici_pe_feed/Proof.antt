@@ -1,8 +1,9 @@
 use borrow.Author.Needs.{needs}
 use Rattle.hub.proofs.table.midici_pe_feed.Statement.{statement}
 use Rattle.hub.proofs.table.midici_pe_feed.Tie as tie
-use mathlib.Core.Path.{sym}
-use Rattle.hub.proofs.LeftLaws.{feeds}
+use mathlib.Core.Path.{sym, ap}
+use Rattle.hub.specs.Table.{fedOf}
+use Rattle.hub.proofs.AnswerLaws.{leaves}
 
 abbrev called : tie.After-fed → tie.After-feed
 called c = c .before .before .before .before .before .before .before .before .before .before .before .before .before
@@ -47,7 +48,7 @@ same-length-6 c = search needs
 returns : tie.Need-returns
 returns c =
     rw (sym (called c .before .before .before .before .before .before .before .shape-of .ensures))
-    (feeds _ _ _ _ (c .fed .ensures) (called c .feed .ensures))
+    (leaves _ _ _ (c .fed .ensures) (ap fedOf (called c .feed .ensures)))
 
 pub midici-pe-feed-spec : {M : Type 1} → statement M
 midici-pe-feed-spec =

@@ -1,8 +1,9 @@
 use borrow.Author.Needs.{needs}
 use Rattle.hub.proofs.table.midici_pe_new.Statement.{statement}
 use Rattle.hub.proofs.table.midici_pe_new.Tie as tie
-use mathlib.Core.Path.{sym}
-use Rattle.hub.proofs.LeftLaws.{makes}
+use mathlib.Core.Path.{sym, ap}
+use Rattle.hub.specs.Table.{madeOf}
+use Rattle.hub.proofs.AnswerLaws.{leaves}
 
 abbrev called : tie.After-made → tie.After-new
 called c = c .before .before .before .before .before
@@ -31,7 +32,7 @@ same-length-2 c = search needs
 returns : tie.Need-returns
 returns c =
     rw (sym (called c .before .before .before .shape-of .ensures))
-    (makes _ _ _ _ _ (c .made .ensures) (called c .new .ensures))
+    (leaves _ _ _ (c .made .ensures) (ap madeOf (called c .new .ensures)))
 
 pub midici-pe-new-spec : {M : Type 1} → statement M
 midici-pe-new-spec =

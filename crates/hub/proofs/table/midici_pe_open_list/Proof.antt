@@ -2,7 +2,7 @@ use borrow.Author.Needs.{needs}
 use Rattle.hub.proofs.table.midici_pe_open_list.Statement.{statement}
 use Rattle.hub.proofs.table.midici_pe_open_list.Tie as tie
 use mathlib.Core.Path.{sym}
-use Rattle.hub.proofs.LeftLaws.{lists}
+use Rattle.hub.proofs.AnswerLaws.{lists}
 
 abbrev called : tie.After-number-counted → tie.After-open-list
 called c = c .before .before .before .before .before .before .before

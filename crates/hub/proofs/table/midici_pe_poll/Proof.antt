@@ -1,8 +1,9 @@
 use borrow.Author.Needs.{needs}
 use Rattle.hub.proofs.table.midici_pe_poll.Statement.{statement}
 use Rattle.hub.proofs.table.midici_pe_poll.Tie as tie
-use mathlib.Core.Path.{sym}
-use Rattle.hub.proofs.LeftLaws.{polls}
+use mathlib.Core.Path.{sym, ap}
+use Rattle.hub.specs.Table.{polledOf}
+use Rattle.hub.proofs.AnswerLaws.{leaves}
 
 abbrev called : tie.After-number-counted → tie.After-poll
 called c = c .before .before .before .before .before .before .before
@@ -35,7 +36,7 @@ same-length-3 c = search needs
 returns : tie.Need-returns
 returns c =
     rw (sym (called c .before .before .before .before .shape-of .ensures))
-    (polls _ _ _ _ _ _ (c .number-counted .ensures) (called c .poll .ensures))
+    (leaves _ _ _ (c .number-counted .ensures) (ap polledOf (called c .poll .ensures)))
 
 pub midici-pe-poll-spec : {M : Type 1} → statement M
 midici-pe-poll-spec =
