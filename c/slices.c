@@ -1,5 +1,5 @@
-/* What include/midici_pe.h says of slices: the lengths given there are enough and none can be less, and NULL will do where
- * the length is 0. */
+/* What include/midici_pe.h says of shapes and slices: the full size is the largest, the lengths given there are enough and
+ * none can be less, and NULL will do where the length is 0. */
 #include "midici_pe.h"
 
 #include <stdio.h>
@@ -21,6 +21,31 @@ static void expect(const char *call, uint64_t answer, uint64_t wanted) {
         printf("%s: %d, not %d\n", call, (int)answer, (int)wanted);
         failures++;
     }
+}
+
+/* The full size, and one more of each number; the longest chunk and the longest message. */
+static void full_size(void) {
+    static uint8_t body[MIDICI_PE_CHUNK_LEN], out[MIDICI_PE_MESSAGE_LEN];
+    size_t peers = MIDICI_PE_MAX_PEERS, header = MIDICI_PE_HEADER_BYTES, tx = MIDICI_PE_TX_BYTES;
+    size_t records = MIDICI_PE_FRAGMENT_RECORDS;
+    expect("full size", midici_pe_reserved_bytes(peers, header, tx, records).count,
+           8 * MIDICI_PE_INDEX_LEN(peers, records) + MIDICI_PE_HEADERS_LEN(peers, header) + MIDICI_PE_ARENAS_LEN(peers, tx));
+    expect("more peers", midici_pe_reserved_bytes(peers + 1, header, tx, records).refusal, 30);
+    expect("longer headers", midici_pe_reserved_bytes(peers, header + 1, tx, records).refusal, 30);
+    expect("longer bodies", midici_pe_reserved_bytes(peers, header, tx + 1, records).refusal, 30);
+    expect("more records", midici_pe_reserved_bytes(peers, header, tx, records + 1).refusal, 30);
+    midici_pe_encode_message(0x34, 1, MIDICI_PE_MUID_MAX, 5, NULL, 0, 1, 1, NULL, 0, out, sizeof out);
+    expect("longest chunk",
+           midici_pe_split_chunk(5, NULL, 0, body, sizeof body, UINT32_MAX, 1, out + MIDICI_PE_CI_HEADER_LEN,
+                                 sizeof out - MIDICI_PE_CI_HEADER_LEN)
+               .count,
+           MIDICI_PE_CHUNK_LEN);
+    expect("a chunk in a message",
+           midici_pe_feed_message(0, 0, 0, 0, numbers, 1, NULL, 0, NULL, 0, NULL, 0, out, sizeof out, 0, NULL, 0, NULL, 0)
+               .refusal,
+           MIDICI_PE_PEER_TABLE_FULL);
+    expect("larger MUID",
+           midici_pe_encode_message(0x34, 1, MIDICI_PE_MUID_MAX + 1, 5, NULL, 0, 1, 1, NULL, 0, out, sizeof out).refusal, 28);
 }
 
 /* Every call, with one slice an element too short: 30 from those that are lent it, and from no other. */
@@ -84,6 +109,7 @@ static void nothing_lent(void) {
 
 int main(void) {
     size_t shortened;
+    full_size();
     for (shortened = 0; shortened <= SLICES; shortened++)
         lengths(shortened);
     nothing_lent();
