@@ -1,12 +1,13 @@
 SEED ?= 1
 CASES ?= 1000000
+RUNS ?= 100000
 PREFIX ?= /usr/local
 LIBRARY = target/staticlib/libhub.a
 
 help:
 	@echo "make test      the gate: proves every crate, tries the must-fail edits, runs the programs, compares with the original"
 	@echo "make run       runs the examples"
-	@echo "make compare   compares the port with the original (SEED=$(SEED) CASES=$(CASES) for each function)"
+	@echo "make compare   compares the port with the original (SEED=$(SEED) CASES=$(CASES) for each function, RUNS=$(RUNS))"
 	@echo "make vectors   writes the list of the original's answers that the program replay plays"
 	@echo "make lib       proves and builds the library for C programs, $(LIBRARY)"
 	@echo "make install   installs the library, its header and its pkg-config file (PREFIX=$(PREFIX) DESTDIR=$(DESTDIR))"
@@ -22,7 +23,7 @@ run:
 
 compare:
 	@oracle/at-hand
-	@oracle/run compare $(SEED) $(CASES)
+	@oracle/run compare $(SEED) $(CASES) $(RUNS)
 
 vectors:
 	@oracle/at-hand

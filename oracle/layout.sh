@@ -3,12 +3,13 @@
 #   crates/  its files, byte for byte
 #   cut/     pieces of controller.rs as they stand there: the counter's function and its first value, and the expression
 #            that settles the requests, which stands there twice
+#   probed/  reassembler.rs as it stands there, with a module behind it that shows its private fields
 # The original is looked for at MIDICI_SRC, or else at ../shared/docs/src, as seen from the repository's root.
 set -eu
 cd "$(dirname "$0")/.."
 src=${MIDICI_SRC:-../shared/docs/src}
 to=target/oracle
-mkdir -p "$to/cut"
+mkdir -p "$to/cut" "$to/probed"
 
 # What is there already and alike is left, so that cargo does not build anew.
 keep() {
@@ -38,3 +39,6 @@ cut negotiated_reply '^        let negotiated = rep\..*;$' 'sub(/^        let ne
 cut first_request_id '^            next_out_request_id: .*,$' 'sub(/^            next_out_request_id: /, "") { sub(/,$/, ""); print }'
 cut alloc_out_request_id '^    fn alloc_out_request_id(&mut self) -> u8 {$' \
     'BEGIN { print "impl PeController {" } /^    fn alloc_out_request_id\(/ { on = 1 } on { print } on && /^    }$/ { print "}"; exit }'
+
+cat "$to/crates/midici-pe/src/reassembler.rs" oracle/shim/midici-pe/probe.rs >"$to/probed/new"
+keep "$to/probed/new" "$to/probed/reassembler.rs"

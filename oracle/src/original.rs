@@ -1,4 +1,6 @@
 //! The original's answers.
+pub mod table;
+
 use crate::case::{from, u16_at, u32_at, u64_at, u8_at, words, Case, Chunk, Fields, List, Whole};
 use crate::op::Op;
 use crate::outcome::{Outcome, Refusal, Reply};

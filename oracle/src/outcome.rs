@@ -23,6 +23,8 @@ pub struct Outcome {
 #[derive(Clone, Copy, PartialEq, Eq, PartialOrd, Ord)]
 pub enum Answer {
     Granted,
+    Waiting,
+    Whole,
     No,
     Yes,
     Refused(u8),
@@ -48,6 +50,8 @@ impl fmt::Display for Answer {
     fn fmt(&self, f: &mut fmt::Formatter) -> fmt::Result {
         match self {
             Answer::Granted => write!(f, "granted"),
+            Answer::Waiting => write!(f, "waiting"),
+            Answer::Whole => write!(f, "whole"),
             Answer::No => write!(f, "no"),
             Answer::Yes => write!(f, "yes"),
             Answer::Refused(number) => write!(f, "refusal {number}"),

@@ -1,5 +1,7 @@
-//! Random cases around the boundaries, from a seed.
+//! Random cases around the boundaries, from a seed, and random runs.
 mod chunks;
+mod lists;
+pub mod runs;
 
 use crate::case::{Case, Fields};
 use crate::op::Op;
@@ -44,6 +46,17 @@ impl Rng {
 
     fn bytes(&mut self, n: usize) -> Vec<u8> {
         (0..n).map(|_| self.byte()).collect()
+    }
+
+    /// Any bytes, eight for each number drawn.
+    fn fill(&mut self, n: usize) -> Vec<u8> {
+        let mut bytes: Vec<u8> = (0..n.div_ceil(8)).flat_map(|_| self.next().to_le_bytes()).collect();
+        bytes.truncate(n);
+        bytes
+    }
+
+    fn shuffle<T>(&mut self, items: &mut [T]) {
+        (1..items.len()).rev().for_each(|i| items.swap(i, self.below(i + 1)));
     }
 
     /// Within one of n.

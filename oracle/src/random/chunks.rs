@@ -59,15 +59,21 @@ fn good(rng: &mut Rng) -> Vec<u8> {
     chunk.to_vec().expect("a good chunk")
 }
 
-/// A copy of a good chunk: once in eight as it is; else with up to three bytes changed, cut short, made longer, with a length
-/// off by one, or with another number.
+/// A copy of a good chunk: once in eight as it is; else damaged.
 pub fn damaged(rng: &mut Rng) -> Vec<u8> {
     let mut chunk = good(rng);
+    damage(rng, &mut chunk);
+    chunk
+}
+
+/// A good chunk is left as it is, or gets up to two bytes changed, is cut short, made longer, or gets a length off by one or
+/// another number.
+pub fn damage(rng: &mut Rng, chunk: &mut Vec<u8>) {
     let header_len = usize::from(chunk[1]) + 128 * usize::from(chunk[2]);
     match rng.below(8) {
         0 => (),
-        1 | 2 => super::change(rng, &mut chunk),
-        3 => change_framing(rng, &mut chunk, header_len),
+        1 | 2 => super::change(rng, chunk),
+        3 => change_framing(rng, chunk, header_len),
         4 => chunk.truncate(rng.below(chunk.len())),
         5 => {
             let n = 1 + rng.below(3);
@@ -79,7 +85,6 @@ pub fn damaged(rng: &mut Rng) -> Vec<u8> {
         }
         _ => off_by_one(rng, &mut chunk[5 + header_len..7 + header_len]),
     }
-    chunk
 }
 
 /// One of the nine bytes besides header and property.

@@ -11,5 +11,8 @@ pub mod error;
 pub mod frame;
 #[path = "../../../../target/oracle/crates/midici-pe/src/mcoded7.rs"]
 pub mod mcoded7;
+/// With the module `probe` behind its text.
+#[path = "../../../../target/oracle/probed/reassembler.rs"]
+pub mod reassembler;
 #[path = "../../../../target/oracle/crates/midici-pe/src/wire.rs"]
 pub mod wire;

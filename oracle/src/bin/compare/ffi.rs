@@ -8,6 +8,24 @@ pub struct Answer {
 }
 
 #[repr(C)]
+pub struct FedAnswer {
+    pub refusal: u8,
+    pub value: u8,
+    pub whole: u8,
+    pub header_len: u64,
+    pub body_len: u64,
+}
+
+#[repr(C)]
+pub struct StatsAnswer {
+    pub refusal: u8,
+    pub value: u8,
+    pub reserved_bytes: u64,
+    pub active_bytes: u64,
+    pub active_slots: u64,
+}
+
+#[repr(C)]
 pub struct HeaderFields {
     pub device_id: u8,
     pub sub_id2: u8,
@@ -158,4 +176,102 @@ extern "C" {
         out: *mut u8,
         out_len: usize,
     ) -> Answer;
+    pub fn midici_pe_new(
+        max_peers: usize,
+        header_bytes: usize,
+        tx_bytes: usize,
+        fragment_records: usize,
+        numbers: *mut u64,
+        numbers_len: usize,
+        index: *mut u64,
+        index_len: usize,
+        headers: *const u8,
+        headers_len: usize,
+        arenas: *const u8,
+        arenas_len: usize,
+    ) -> Answer;
+    pub fn midici_pe_feed(
+        max_peers: usize,
+        header_bytes: usize,
+        tx_bytes: usize,
+        fragment_records: usize,
+        numbers: *mut u64,
+        numbers_len: usize,
+        index: *mut u64,
+        index_len: usize,
+        headers: *mut u8,
+        headers_len: usize,
+        arenas: *mut u8,
+        arenas_len: usize,
+        peer: u32,
+        raw_chunk: *const u8,
+        raw_chunk_len: usize,
+        now_ms: u64,
+        out_header: *mut u8,
+        out_header_len: usize,
+        out_body: *mut u8,
+        out_body_len: usize,
+    ) -> FedAnswer;
+    pub fn midici_pe_feed_message(
+        max_peers: usize,
+        header_bytes: usize,
+        tx_bytes: usize,
+        fragment_records: usize,
+        numbers: *mut u64,
+        numbers_len: usize,
+        index: *mut u64,
+        index_len: usize,
+        headers: *mut u8,
+        headers_len: usize,
+        arenas: *mut u8,
+        arenas_len: usize,
+        body: *const u8,
+        body_len: usize,
+        now_ms: u64,
+        out_header: *mut u8,
+        out_header_len: usize,
+        out_body: *mut u8,
+        out_body_len: usize,
+    ) -> FedAnswer;
+    pub fn midici_pe_cancel(
+        max_peers: usize,
+        header_bytes: usize,
+        tx_bytes: usize,
+        fragment_records: usize,
+        numbers: *mut u64,
+        numbers_len: usize,
+        peer: u32,
+        request_id: u8,
+    ) -> Answer;
+    pub fn midici_pe_drop_peer(
+        max_peers: usize,
+        header_bytes: usize,
+        tx_bytes: usize,
+        fragment_records: usize,
+        numbers: *mut u64,
+        numbers_len: usize,
+        peer: u32,
+    ) -> Answer;
+    pub fn midici_pe_poll(
+        max_peers: usize,
+        header_bytes: usize,
+        tx_bytes: usize,
+        fragment_records: usize,
+        numbers: *mut u64,
+        numbers_len: usize,
+        now_ms: u64,
+        out_peers: *mut u64,
+        out_peers_len: usize,
+        out_request_ids: *mut u64,
+        out_request_ids_len: usize,
+    ) -> Answer;
+    pub fn midici_pe_memory_stats(
+        max_peers: usize,
+        header_bytes: usize,
+        tx_bytes: usize,
+        fragment_records: usize,
+        numbers: *const u64,
+        numbers_len: usize,
+    ) -> StatsAnswer;
+    pub fn midici_pe_reserved_bytes(max_peers: usize, header_bytes: usize, tx_bytes: usize, fragment_records: usize) -> Answer;
 }

@@ -1,7 +1,10 @@
-//! Compares the port with the original: `compare SEED CASES`. All inputs of a function where they are few; else all that are
-//! short or at the boundaries, and then CASES random ones. It stops at the first difference.
+//! Compares the port with the original: `compare SEED CASES RUNS`. All inputs of a function where they are few; else all that are
+//! short or at the boundaries, and then CASES random ones; then RUNS runs of calls on a table. It stops at the first difference.
 mod ffi;
 mod port;
+mod runs;
+mod state;
+mod table;
 
 use oracle::case::Case;
 use oracle::op::Op;
@@ -62,13 +65,13 @@ fn compare(op: Op, seed: u64, cases: u64) -> Result<Tally, String> {
 }
 
 fn number(args: &[String], at: usize) -> Result<u64, String> {
-    let word = args.get(at).ok_or("usage: compare SEED CASES")?;
+    let word = args.get(at).ok_or("usage: compare SEED CASES RUNS")?;
     word.parse().map_err(|e| format!("{word}: {e}"))
 }
 
-fn run() -> Result<u64, String> {
+fn run() -> Result<(), String> {
     let args: Vec<String> = std::env::args().collect();
-    let (seed, cases) = (number(&args, 1)?, number(&args, 2)?);
+    let (seed, cases, runs) = (number(&args, 1)?, number(&args, 2)?, number(&args, 3)?);
     println!("The port and the original, seed {seed}, {cases} random cases for each function but those with all inputs");
     let mut total = 0;
     for op in Op::ALL {
@@ -76,15 +79,17 @@ fn run() -> Result<u64, String> {
         println!("{}", tally.line(op));
         total += tally.compared;
     }
-    Ok(total)
+    println!("{total} comparisons, no difference");
+    println!("{runs} runs of sixty calls, and more with lists of some 2,048 chunks, on tables of 0, 1, 2, 8 and 16 peers");
+    let tally = runs::compare(seed, runs)?;
+    tally.lines().iter().for_each(|line| println!("{line}"));
+    println!("{} calls, {} bytes of answers, outputs and memory compared, no difference", tally.calls, tally.bytes);
+    Ok(())
 }
 
 fn main() -> ExitCode {
     match run() {
-        Ok(total) => {
-            println!("{total} comparisons, no difference");
-            ExitCode::SUCCESS
-        }
+        Ok(()) => ExitCode::SUCCESS,
         Err(difference) => {
             println!("DIFFERENCE: {difference}");
             ExitCode::FAILURE

@@ -1,0 +1,168 @@
+//! Runs of calls on a table, each put to the port and to the original, with all that both hold compared after every call.
+use crate::state;
+use crate::table::{Table, MAX_SLOTS};
+use midici_pe::reassembler::{probe, probe::Rooms, Reassembler};
+use oracle::original;
+use oracle::outcome::Answer;
+use oracle::random::runs::Script;
+use oracle::random::Rng;
+use oracle::run::{Call, Start, Told, What, HEADER_BYTES, TX_BYTES};
+use std::collections::BTreeMap;
+
+/// One run in so many has all rooms compared after every call; the others when they end.
+const CLOSELY: u64 = 64;
+
+/// Both sides, with memory that a table takes over from the one before it.
+struct Sides {
+    table: Table,
+    rooms: Rooms,
+}
+
+/// A table on both sides.
+struct Pair<'a> {
+    sides: &'a mut Sides,
+    original: Reassembler,
+    garbage: u64,
+    closely: bool,
+}
+
+#[derive(Default)]
+pub struct Tally {
+    pub calls: u64,
+    pub bytes: u64,
+    answers: BTreeMap<(&'static str, Answer), u64>,
+}
+
+impl Sides {
+    fn new() -> Sides {
+        let bytes = |n: usize, step: usize| (0..n).map(|at| (at * step >> 3) as u8).collect::<Vec<u8>>();
+        let (headers, arenas) = (bytes(MAX_SLOTS * HEADER_BYTES, 13), bytes(MAX_SLOTS * TX_BYTES, 29));
+        Sides { table: Table::new(&headers, &arenas, 0), rooms: Rooms::new(&headers, &arenas) }
+    }
+
+    /// Makes a table on both sides.
+    fn make(&mut self, start: Start, garbage: u64, closely: bool) -> Result<Pair<'_>, String> {
+        let mut original = Reassembler::new(start.max_peers);
+        self.rooms.lend(&mut original);
+        if let Some(clock) = start.clock {
+            probe::set_clock(&mut original, clock);
+        }
+        let told = self.table.make(start, garbage);
+        if told != (Told { refusal: 0, value: 0, numbers: [0; 3] }) {
+            return Err(format!("new answers {told:?}"));
+        }
+        let pair = Pair { sides: self, original, garbage, closely };
+        pair.state()?;
+        state::compare_rooms(&pair.sides.table, &pair.original)?;
+        Ok(pair)
+    }
+}
+
+impl Pair<'_> {
+    /// Puts a call to both sides.
+    fn call(&mut self, call: &Call, tally: &mut Tally) -> Result<(), String> {
+        let (expected, written) = original::table::call(&mut self.original, call);
+        let found = self.sides.table.call(call);
+        if expected != found {
+            return Err(format!("the original answers {expected:?}, the port {found:?}"));
+        }
+        tally.calls += 1;
+        tally.bytes += self.sides.table.outputs(&call.what, &written)? + self.state()?;
+        *tally.answers.entry((call.what.name(), answer(&call.what, found))).or_default() += 1;
+        if self.closely {
+            tally.bytes += state::compare_rooms(&self.sides.table, &self.original)?;
+        }
+        Ok(())
+    }
+
+    fn state(&self) -> Result<u64, String> {
+        state::compare(&self.sides.table, &self.original, self.garbage)
+    }
+
+    /// The run's end.
+    fn end(mut self) -> Result<u64, String> {
+        let bytes = state::compare_rooms(&self.sides.table, &self.original);
+        self.sides.rooms.take_back(&mut self.original);
+        bytes
+    }
+}
+
+fn answer(what: &What, told: Told) -> Answer {
+    match what {
+        _ if told.refusal != 0 => Answer::Refused(told.refusal),
+        What::Feed { .. } | What::FeedMessage { .. } if told.numbers[0] == 0 => Answer::Waiting,
+        What::Feed { .. } | What::FeedMessage { .. } => Answer::Whole,
+        What::MemoryStats | What::ReservedBytes => Answer::Granted,
+        _ if told.numbers[0] == 0 => Answer::No,
+        _ => Answer::Yes,
+    }
+}
+
+/// The calls of a run from a seed, up to the one that differs, if one does.
+struct Played {
+    start: Start,
+    calls: Vec<Call>,
+}
+
+fn play(sides: &mut Sides, seed: u64, run: u64, tally: &mut Tally) -> Result<(), (String, Played)> {
+    let garbage = seed.rotate_left(17) ^ run << 8;
+    let mut script = Script::new(Rng::new(seed ^ 0x7AB1_E000_0000_0000 ^ run << 20));
+    let start = script.start();
+    let mut calls = Vec::new();
+    let mut all = || {
+        let mut pair = sides.make(start, garbage, run % CLOSELY == 0)?;
+        while let Some(call) = script.next(&pair.original) {
+            calls.push(call);
+            pair.call(&calls[calls.len() - 1], tally)?;
+        }
+        tally.bytes += pair.end()?;
+        Ok(())
+    };
+    all().map_err(|difference| (difference, Played { start, calls }))
+}
+
+/// Do these calls on fresh memory differ?
+fn differ(start: Start, calls: &[Call]) -> bool {
+    let mut sides = Sides::new();
+    let Ok(mut pair) = sides.make(start, u64::MAX, true) else { return true };
+    calls.iter().any(|call| pair.call(call, &mut Tally::default()).is_err())
+}
+
+/// Leaves out each call without which the rest still differs.
+fn shortened(mut played: Played) -> Played {
+    if differ(played.start, &played.calls) {
+        for at in (0..played.calls.len()).rev() {
+            let call = played.calls.remove(at);
+            if !differ(played.start, &played.calls) {
+                played.calls.insert(at, call);
+            }
+        }
+    }
+    played
+}
+
+/// All runs. A difference is told with the fewest calls that show it.
+pub fn compare(seed: u64, runs: u64) -> Result<Tally, String> {
+    let mut sides = Sides::new();
+    let mut tally = Tally::default();
+    for run in 0..runs {
+        play(&mut sides, seed, run, &mut tally).map_err(|(difference, played)| {
+            let Played { start, calls } = shortened(played);
+            let lines: Vec<String> = calls.iter().map(|call| format!("\n  {call}")).collect();
+            format!("run {run}: {difference}\n  {start:?}{}", lines.concat())
+        })?;
+    }
+    Ok(tally)
+}
+
+impl Tally {
+    /// How often each call got each answer.
+    pub fn lines(&self) -> Vec<String> {
+        let line = |name: &'static str| {
+            let of_name = || self.answers.iter().filter(move |((call, _), _)| *call == name);
+            let answers: Vec<String> = of_name().map(|((_, answer), n)| format!("{answer}: {n}")).collect();
+            format!("{name:20} {:>9}   {}", of_name().map(|(_, n)| n).sum::<u64>(), answers.join(", "))
+        };
+        What::NAMES.map(line).to_vec()
+    }
+}

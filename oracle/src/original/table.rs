@@ -1,0 +1,69 @@
+//! The original's answers to the calls of a run.
+use crate::outcome::Refusal;
+use crate::run::{Call, Lent, Told, What, Written};
+use midici_core::muid::Muid;
+use midici_core::pe_msg::PeMessage;
+use midici_pe::reassembler::{ReassembleEvent, Reassembler};
+
+type Fed = Result<Option<ReassembleEvent>, Refusal>;
+
+/// The original's answer. It is lent no memory, and its type holds no number above 28 bits: document 01's first two questions
+/// are put here.
+pub fn call(r: &mut Reassembler, call: &Call) -> (Told, Written) {
+    let mut written = Written::default();
+    let numbers = ask(call).and_then(|peer| answer(r, &call.what, peer, &mut written));
+    let told = match numbers {
+        Ok(numbers) => Told { refusal: 0, value: 0, numbers },
+        Err(Refusal { number, value }) => Told { refusal: number, value, numbers: [0; 3] },
+    };
+    (told, written)
+}
+
+/// "Shape in range and lent memory long enough? 30. Console number within 28 bits (also `Muid::from_u32`)? 28."
+fn ask(call: &Call) -> Result<Muid, Refusal> {
+    if call.lent != Lent::Right {
+        return Err(Refusal { number: 30, value: 0 });
+    }
+    Ok(Muid::from_u32(call.what.peer().unwrap_or(0))?)
+}
+
+fn answer(r: &mut Reassembler, what: &What, peer: Muid, written: &mut Written) -> Result<[u64; 3], Refusal> {
+    Ok(match what {
+        What::Feed { raw_chunk, now_ms, .. } => fed(r.feed(peer, raw_chunk, *now_ms).map_err(Refusal::from), written)?,
+        What::FeedMessage { body, now_ms } => fed(feed_message(r, body, *now_ms), written)?,
+        What::Cancel { request_id, .. } => [r.cancel(peer, *request_id).into(), 0, 0],
+        What::DropPeer { .. } => [r.drop_peer(peer) as u64, 0, 0],
+        What::Poll { now_ms } => polled(r.poll(*now_ms), written),
+        What::MemoryStats => {
+            let stats = r.memory_stats();
+            [stats.reserved_bytes as u64, stats.active_bytes as u64, stats.active_slots as u64]
+        }
+        What::ReservedBytes => [r.reserved_bytes() as u64, 0, 0],
+    })
+}
+
+/// The original has no such entry: this is its message's reader, and then its `feed` under the message's source.
+fn feed_message(r: &mut Reassembler, body: &[u8], now_ms: u64) -> Fed {
+    let message = PeMessage::decode(body)?;
+    Ok(r.feed(message.header.source, &message.pe_payload, now_ms)?)
+}
+
+fn fed(fed: Fed, written: &mut Written) -> Result<[u64; 3], Refusal> {
+    Ok(match fed? {
+        None => [0; 3],
+        Some(ReassembleEvent::Complete { header, body, .. }) => {
+            *written = Written { header, body, ..Written::default() };
+            [1, written.header.len() as u64, written.body.len() as u64]
+        }
+        Some(event) => panic!("feed of the original: {event:?}"),
+    })
+}
+
+fn polled(events: Vec<ReassembleEvent>, written: &mut Written) -> [u64; 3] {
+    for event in &events {
+        let ReassembleEvent::Timeout { peer, request_id } = event else { panic!("poll of the original: {event:?}") };
+        written.peers.push(peer.to_u32().into());
+        written.request_ids.push((*request_id).into());
+    }
+    [events.len() as u64, 0, 0]
+}

@@ -1,0 +1,129 @@
+//! Random lists for a run, as the original cuts them or as chunks are written one by one, and chunks made wrong.
+use super::{chunks, seven_bit, Rng};
+use midici_pe::chunker::{first_chunk_property_capacity, later_chunk_property_capacity, split};
+use midici_pe::frame::PeChunk;
+
+/// How large the lists of a run are.
+#[derive(Clone, Copy, PartialEq, Eq)]
+pub enum Sizes {
+    /// Mostly a few hundred bytes.
+    Small,
+    /// Often around 65,536 bytes.
+    Large,
+    /// One of some 2,048 chunks first.
+    Many,
+}
+
+/// The chunks of a list with a request id.
+pub fn list(rng: &mut Rng, sizes: Sizes, request_id: u8) -> Vec<Vec<u8>> {
+    if sizes == Sizes::Large && rng.once_in(2) {
+        return if rng.once_in(4) { full(rng, request_id) } else { in_large_pieces(rng, request_id) };
+    }
+    match rng.below(64) {
+        0 => with_header_around_4096(rng, request_id),
+        1..=3 => any(rng, request_id),
+        4..=6 => cut(rng, request_id, 48, 1_000, 256),
+        _ => small(rng, request_id),
+    }
+}
+
+fn cut(rng: &mut Rng, request_id: u8, header_len: usize, body_len: usize, max_sysex: u32) -> Vec<Vec<u8>> {
+    split(request_id, &seven_bit(rng, header_len), &rng.fill(body_len), max_sysex).expect("a list that can be cut")
+}
+
+fn small(rng: &mut Rng, request_id: u8) -> Vec<Vec<u8>> {
+    let header_len = rng.below(12);
+    let pieces = rng.pick(&[0, 0, 1, 1, 1, 2, 2, 3, 4]);
+    let body_len = if rng.once_in(4) { rng.around(104 * pieces) } else { 104 * pieces + rng.below(40) };
+    cut(rng, request_id, header_len, body_len, 128)
+}
+
+/// Any limit, and any header that it takes.
+fn any(rng: &mut Rng, request_id: u8) -> Vec<Vec<u8>> {
+    let max_sysex = chunks::limit(rng);
+    let later = later_chunk_property_capacity(max_sysex);
+    let header_len = if rng.once_in(4) { later } else { rng.below(later + 1) };
+    let first = first_chunk_property_capacity(max_sysex, header_len).expect("a header that fits");
+    let pieces = rng.below(4);
+    let body_len = if rng.once_in(2) { rng.around(first + pieces * later) } else { rng.below(3 * later) };
+    cut(rng, request_id, header_len, body_len, max_sysex)
+}
+
+/// A body of 65,536 bytes, one less, or up to two more.
+fn full(rng: &mut Rng, request_id: u8) -> Vec<Vec<u8>> {
+    let (header_len, body_len) = (rng.below(100), 65_535 + rng.below(4));
+    cut(rng, request_id, header_len, body_len, 4_096)
+}
+
+/// The same in chunks of up to 16,383 bytes.
+fn in_large_pieces(rng: &mut Rng, request_id: u8) -> Vec<Vec<u8>> {
+    let header = seven_bit(rng, 10);
+    let last = rng.below(8);
+    let lengths = [16_383, 16_383, 16_383, 16_383, last, 0];
+    let chunk = |(k, len): (usize, &usize)| PeChunk {
+        request_id,
+        header: if k == 0 { header.clone() } else { Vec::new() },
+        num_chunks: lengths.len() as u16,
+        chunk_num: k as u16 + 1,
+        property: rng.fill(*len),
+    };
+    lengths.iter().enumerate().map(chunk).map(bytes).collect()
+}
+
+/// One chunk whose header is around 4,096 bytes, which no list that is cut has, or longer.
+fn with_header_around_4096(rng: &mut Rng, request_id: u8) -> Vec<Vec<u8>> {
+    let header_len = if rng.once_in(4) { 4_000 + rng.below(12_384) } else { rng.around(4_096) };
+    let (header, property) = (seven_bit(rng, header_len), rng.fill(5));
+    vec![bytes(PeChunk { request_id, header, num_chunks: 1, chunk_num: 1, property })]
+}
+
+/// Chunks of up to two bytes, some 2,048 of them, with a count at which they are whole, or one that is not yet known.
+pub fn many(rng: &mut Rng, request_id: u8) -> Vec<Vec<u8>> {
+    let (count, known) = (2_046 + rng.below(6), rng.once_in(2));
+    let chunk = |k: usize| PeChunk {
+        request_id,
+        header: Vec::new(),
+        num_chunks: if known { count as u16 } else { 0 },
+        chunk_num: k as u16,
+        property: rng.fill(k % 3),
+    };
+    (1..=count).map(chunk).map(bytes).collect()
+}
+
+fn bytes(chunk: PeChunk) -> Vec<u8> {
+    chunk.to_vec().expect("a chunk that can be written")
+}
+
+/// A chunk of a list with something else in one of its fields, or damaged.
+pub fn wrong(rng: &mut Rng, raw_chunk: &[u8]) -> Vec<u8> {
+    let mut raw_chunk = raw_chunk.to_vec();
+    let Ok(mut chunk) = PeChunk::decode(&raw_chunk) else { return raw_chunk };
+    match rng.below(16) {
+        0..=1 => chunk.num_chunks = 0,
+        2..=3 => chunk.num_chunks = (rng.around(chunk.num_chunks.into()) % 16_384) as u16,
+        4 => chunk.chunk_num = chunk.num_chunks + 1 + rng.below(3) as u16,
+        5 => chunk.chunk_num = 16_383 - rng.below(2) as u16,
+        6 => chunk.chunk_num = 0,
+        7 => chunk.chunk_num = 1,
+        8 => other_header(rng, &mut chunk),
+        9 => chunk.property = rng.fill(chunk.property.len() / 2),
+        _ => {
+            chunks::damage(rng, &mut raw_chunk);
+            return raw_chunk;
+        }
+    }
+    if chunk.chunk_num != 1 {
+        chunk.header.clear();
+    }
+    bytes(chunk)
+}
+
+/// The first chunk with another header: a byte changed, or one more or less.
+fn other_header(rng: &mut Rng, chunk: &mut PeChunk) {
+    chunk.chunk_num = 1;
+    match (rng.below(3), chunk.header.last_mut()) {
+        (0, Some(last)) => *last ^= 1,
+        (1, Some(_)) => chunk.header.truncate(chunk.header.len() - 1),
+        _ => chunk.header.push(0x20),
+    }
+}

@@ -1,0 +1,251 @@
+//! Random runs: a table, and the calls on it, one after the other.
+use super::lists::{self, Sizes};
+use super::{Rng, KINDS};
+use crate::run::{Call, Lent, Start, What};
+use midici_core::header::CiHeader;
+use midici_core::muid::Muid;
+use midici_core::pe_msg::PeMessage;
+use midici_pe::reassembler::{probe, Reassembler};
+
+/// How many calls a run has, besides those that feed a list of some 2,048 chunks.
+const CALLS: usize = 60;
+const PEERS: [usize; 16] = [0, 1, 1, 1, 1, 1, 2, 2, 2, 2, 2, 8, 8, 8, 16, 16];
+const EDGE_PEERS: [u32; 5] = [0x0FFF_FFFF, 0, 1, 0x0FFF_FFFE, 0x0FFF_FF00];
+const REQUEST_IDS: [u8; 8] = [0x05, 0x00, 0x7F, 0x01, 0x02, 0x40, 0x7E, 0x03];
+const TIMES: [u64; 8] = [0, 1, 1_000, 3_000, 1 << 32, 1 << 63, u64::MAX - 4_000, u64::MAX];
+
+/// A list that is being sent: its chunks, the order in which they go, and how many went.
+struct Sent {
+    peer: u32,
+    chunks: Vec<Vec<u8>>,
+    order: Vec<usize>,
+    at: usize,
+}
+
+/// What a run is made of.
+pub struct Script {
+    rng: Rng,
+    start: Start,
+    peers: Vec<u32>,
+    request_ids: Vec<u8>,
+    sizes: Sizes,
+    lists: Vec<Sent>,
+    /// How many lists are sent side by side.
+    side_by_side: usize,
+    /// Once in so many chunks one is wrong.
+    wrong_in: usize,
+    /// Does time jump?
+    jumps: bool,
+    now_ms: u64,
+    left: usize,
+}
+
+impl Script {
+    pub fn new(mut rng: Rng) -> Script {
+        let max_peers = rng.pick(&PEERS);
+        let start = Start { max_peers, spare: rng.pick(&[0, 0, 3]), clock: clock(&mut rng) };
+        let sizes = sizes(&mut rng);
+        let named = 1 + rng.below(max_peers + 2);
+        let peers = (0..named).map(|_| if rng.once_in(3) { rng.pick(&EDGE_PEERS) } else { rng.next() as u32 >> 4 }).collect();
+        let ids = 1 + rng.below(REQUEST_IDS.len());
+        let mut script = Script {
+            start,
+            peers,
+            request_ids: REQUEST_IDS[..ids].to_vec(),
+            sizes,
+            lists: Vec::new(),
+            side_by_side: 1 + rng.below(if sizes == Sizes::Small { 2 * max_peers + 4 } else { 3 }),
+            wrong_in: if sizes == Sizes::Small { rng.pick(&[3, 8, 30, 1_000]) } else { rng.pick(&[60, 1_000]) },
+            jumps: rng.once_in(8),
+            now_ms: rng.pick(&TIMES),
+            left: CALLS,
+            rng,
+        };
+        script.send_many();
+        script
+    }
+
+    pub fn start(&self) -> Start {
+        self.start
+    }
+
+    /// The next call, if there is one, given the table as it stands in the original.
+    pub fn next(&mut self, r: &Reassembler) -> Option<Call> {
+        self.left = self.left.checked_sub(1)?;
+        self.step_time();
+        let what = self.what(r);
+        Some(Call { lent: self.lent(&what), what })
+    }
+
+    fn what(&mut self, r: &Reassembler) -> What {
+        if self.left >= CALLS {
+            return self.feed();
+        }
+        match self.rng.below(64) {
+            0..=1 => self.cancel(r),
+            2 => What::DropPeer { peer: self.named() },
+            3..=6 => What::Poll { now_ms: self.poll_time(r) },
+            7..=8 => What::MemoryStats,
+            9 => What::ReservedBytes,
+            _ => self.feed(),
+        }
+    }
+
+    /// Once in forty what is lent is not right.
+    fn lent(&mut self, what: &What) -> Lent {
+        if !self.rng.once_in(40) {
+            return Lent::Right;
+        }
+        let needs = what.needs(self.start.max_peers);
+        let short = self.rng.below(needs.len().max(1));
+        if self.rng.once_in(2) || needs.get(short).is_none_or(|n| *n == 0) {
+            Lent::Shape(self.rng.below(4))
+        } else {
+            Lent::Short(short)
+        }
+    }
+
+    fn step_time(&mut self) {
+        let by = self.rng.below(100) as u64;
+        self.now_ms = match self.rng.below(32) {
+            0 if self.jumps => self.rng.pick(&TIMES).wrapping_add(by),
+            1 => self.now_ms.saturating_add(2_950 + by),
+            2 => self.now_ms.saturating_sub(50 * by),
+            3..=7 => self.now_ms,
+            _ => self.now_ms.saturating_add(by),
+        };
+    }
+
+    /// A peer of the run, now and then any number.
+    fn named(&mut self) -> u32 {
+        match self.rng.below(64) {
+            0 => self.rng.next() as u32,
+            1 => self.rng.pick(&[0x1000_0000, u32::MAX]),
+            _ => self.rng.pick(&self.peers),
+        }
+    }
+
+    /// The records and slots that are open.
+    fn open(r: &Reassembler) -> Vec<(usize, usize)> {
+        let places = (0..probe::max_peers(r)).flat_map(|p| (0..probe::PEER_SLOTS).map(move |s| (p, s)));
+        places.filter(|(p, s)| probe::slot(r, *p, *s).is_active()).collect()
+    }
+
+    /// Mostly of what is open.
+    fn cancel(&mut self, r: &Reassembler) -> What {
+        let open = Self::open(r);
+        if open.is_empty() || self.rng.once_in(4) {
+            return What::Cancel { peer: self.named(), request_id: self.rng.byte() };
+        }
+        let (p, s) = self.rng.pick(&open);
+        What::Cancel { peer: probe::peer(r, p).1, request_id: probe::slot(r, p, s).request_id() }
+    }
+
+    /// Now, or around the moment at which an open slot's time is up.
+    fn poll_time(&mut self, r: &Reassembler) -> u64 {
+        let open = Self::open(r);
+        if open.is_empty() || self.rng.once_in(4) {
+            return self.now_ms;
+        }
+        let (p, s) = self.rng.pick(&open);
+        let since = self.rng.pick(&[0, 2_999, 2_999, 3_000, 3_000, 3_001]);
+        probe::slot(r, p, s).last_activity_ms().saturating_add(since)
+    }
+
+    fn feed(&mut self) -> What {
+        let wrong = self.rng.once_in(self.wrong_in);
+        let stays = wrong && self.rng.once_in(2);
+        let (peer, chunk) = self.chunk(stays);
+        let raw_chunk = if wrong { lists::wrong(&mut self.rng, &chunk) } else { chunk };
+        let now_ms = self.now_ms;
+        if self.rng.once_in(3) {
+            let body = self.message(peer, raw_chunk);
+            return What::FeedMessage { body, now_ms };
+        }
+        let peer = if self.rng.once_in(64) { self.named() } else { peer };
+        What::Feed { peer, raw_chunk, now_ms }
+    }
+
+    /// The next chunk of a list, which may stay the next; or now and then one that went before. A list that has gone makes room
+    /// for another.
+    fn chunk(&mut self, stays: bool) -> (u32, Vec<u8>) {
+        if self.left < CALLS {
+            self.lists.retain(|list| list.at < list.order.len());
+            while self.lists.len() < self.side_by_side {
+                self.send_another();
+            }
+        }
+        let list = self.rng.below(self.lists.len());
+        let again = self.left < CALLS && self.rng.once_in(2 * self.wrong_in);
+        let list = &mut self.lists[list];
+        if again {
+            let place = self.rng.below(list.at + 1).min(list.order.len() - 1);
+            return (list.peer, list.chunks[list.order[place]].clone());
+        }
+        let chunk = list.chunks[list.order[list.at]].clone();
+        list.at += usize::from(!stays);
+        (list.peer, chunk)
+    }
+
+    fn send_another(&mut self) {
+        let request_id = self.rng.pick(&self.request_ids);
+        let chunks = lists::list(&mut self.rng, self.sizes, request_id);
+        self.send(chunks);
+    }
+
+    /// The list of some 2,048 chunks, where the run has one: it goes alone, and the calls begin behind it.
+    fn send_many(&mut self) {
+        if self.sizes == Sizes::Many {
+            let request_id = self.request_ids[0];
+            let chunks = lists::many(&mut self.rng, request_id);
+            self.left += chunks.len();
+            self.send(chunks);
+        }
+    }
+
+    fn send(&mut self, chunks: Vec<Vec<u8>>) {
+        let mut order: Vec<usize> = (0..chunks.len()).collect();
+        match self.rng.below(8) {
+            0..=3 => (),
+            4 => order.reverse(),
+            _ => self.rng.shuffle(&mut order),
+        }
+        self.lists.push(Sent { peer: self.rng.pick(&self.peers), chunks, order, at: 0 });
+    }
+
+    /// A message around a chunk, once in `wrong_in` with up to two bytes changed, cut short, or of another kind.
+    fn message(&mut self, peer: u32, chunk: Vec<u8>) -> Vec<u8> {
+        let rng = &mut self.rng;
+        let muid = |n: u32| Muid::from_u32(n).expect("a number of 28 bits");
+        let header = CiHeader {
+            device_id: rng.byte(),
+            sub_id2: rng.pick(&[0x34, 0x35, 0x36, 0x37, 0x38, 0x39, 0x3F]),
+            version: rng.byte(),
+            source: muid(peer),
+            dest: muid(rng.next() as u32 >> 4),
+        };
+        let mut body = PeMessage { header, pe_payload: chunk }.to_vec().expect("a message that can be written");
+        if rng.once_in(self.wrong_in) {
+            match rng.below(4) {
+                0 => super::change(rng, &mut body[..13]),
+                1 => body.truncate(rng.below(14)),
+                2 => body[3] = rng.pick(&KINDS),
+                _ => super::change(rng, &mut body),
+            }
+        }
+        body
+    }
+}
+
+/// Where the clock starts: mostly as `new` leaves it; else shortly before its end.
+fn clock(rng: &mut Rng) -> Option<u64> {
+    rng.once_in(16).then(|| u64::MAX - rng.below(20) as u64)
+}
+
+fn sizes(rng: &mut Rng) -> Sizes {
+    match rng.below(512) {
+        0 => Sizes::Many,
+        1..=31 => Sizes::Large,
+        _ => Sizes::Small,
+    }
+}
