@@ -77,23 +77,27 @@ impl Script {
         Some(Call { lent: self.lent(&what), what })
     }
 
+    /// Is this one of the calls that feed the list of some 2,048 chunks? Nothing is wrong with them.
+    fn is_first_list(&self) -> bool {
+        self.left >= CALLS
+    }
+
     fn what(&mut self, r: &Reassembler) -> What {
-        if self.left >= CALLS {
-            return self.feed();
-        }
         match self.rng.below(64) {
+            _ if self.is_first_list() => self.feed_first(),
             0..=1 => self.cancel(r),
             2 => What::DropPeer { peer: self.named() },
             3..=6 => What::Poll { now_ms: self.poll_time(r) },
             7..=8 => What::MemoryStats,
             9 => What::ReservedBytes,
+            10 => self.feed_any(),
             _ => self.feed(),
         }
     }
 
     /// Once in forty what is lent is not right.
     fn lent(&mut self, what: &What) -> Lent {
-        if !self.rng.once_in(40) {
+        if self.is_first_list() || !self.rng.once_in(40) {
             return Lent::Right;
         }
         let needs = what.needs(self.start.max_peers);
@@ -152,39 +156,51 @@ impl Script {
         probe::slot(r, p, s).last_activity_ms().saturating_add(since)
     }
 
+    /// A chunk of a list, now and then wrong or under another peer.
     fn feed(&mut self) -> What {
         let wrong = self.rng.once_in(self.wrong_in);
         let stays = wrong && self.rng.once_in(2);
         let (peer, chunk) = self.chunk(stays);
-        let raw_chunk = if wrong { lists::wrong(&mut self.rng, &chunk) } else { chunk };
-        let now_ms = self.now_ms;
-        if self.rng.once_in(3) {
-            let body = self.message(peer, raw_chunk);
-            return What::FeedMessage { body, now_ms };
-        }
-        let peer = if self.rng.once_in(64) { self.named() } else { peer };
-        What::Feed { peer, raw_chunk, now_ms }
+        let chunk = if wrong { lists::wrong(&mut self.rng, &chunk) } else { chunk };
+        let peer = if self.rng.once_in(64) { self.rng.pick(&self.peers) } else { peer };
+        self.fed(peer, chunk)
     }
 
     /// The next chunk of a list, which may stay the next; or now and then one that went before. A list that has gone makes room
     /// for another.
     fn chunk(&mut self, stays: bool) -> (u32, Vec<u8>) {
-        if self.left < CALLS {
-            self.lists.retain(|list| list.at < list.order.len());
-            while self.lists.len() < self.side_by_side {
-                self.send_another();
-            }
+        self.lists.retain(|list| list.at < list.order.len());
+        while self.lists.len() < self.side_by_side {
+            self.send_another();
         }
-        let list = self.rng.below(self.lists.len());
-        let again = self.left < CALLS && self.rng.once_in(2 * self.wrong_in);
-        let list = &mut self.lists[list];
-        if again {
-            let place = self.rng.below(list.at + 1).min(list.order.len() - 1);
-            return (list.peer, list.chunks[list.order[place]].clone());
+        let which = self.rng.below(self.lists.len());
+        let again = self.rng.once_in(2 * self.wrong_in);
+        let list = &mut self.lists[which];
+        let place = if again { self.rng.below(list.at + 1) } else { list.at };
+        list.at += usize::from(!again && !stays);
+        (list.peer, list.chunks[list.order[place]].clone())
+    }
+
+    /// The next chunk of the list of some 2,048 chunks.
+    fn feed_first(&mut self) -> What {
+        let list = &mut self.lists[0];
+        let (peer, chunk) = (list.peer, list.chunks[list.order[list.at]].clone());
+        list.at += 1;
+        self.fed(peer, chunk)
+    }
+
+    /// A chunk that no list has, under any peer of the run or any number.
+    fn feed_any(&mut self) -> What {
+        What::Feed { peer: self.named(), raw_chunk: super::chunks::damaged(&mut self.rng), now_ms: self.now_ms }
+    }
+
+    /// A chunk by itself, or in a message.
+    fn fed(&mut self, peer: u32, raw_chunk: Vec<u8>) -> What {
+        let now_ms = self.now_ms;
+        if self.rng.once_in(3) {
+            return What::FeedMessage { body: self.message(peer, raw_chunk), now_ms };
         }
-        let chunk = list.chunks[list.order[list.at]].clone();
-        list.at += usize::from(!stays);
-        (list.peer, chunk)
+        What::Feed { peer, raw_chunk, now_ms }
     }
 
     fn send_another(&mut self) {
@@ -213,8 +229,10 @@ impl Script {
         self.lists.push(Sent { peer: self.rng.pick(&self.peers), chunks, order, at: 0 });
     }
 
-    /// A message around a chunk, once in `wrong_in` with up to two bytes changed, cut short, or of another kind.
+    /// A message around a chunk; in a list that goes as others do, once in `wrong_in` with up to two bytes changed, cut short,
+    /// or of another kind.
     fn message(&mut self, peer: u32, chunk: Vec<u8>) -> Vec<u8> {
+        let first_list = self.is_first_list();
         let rng = &mut self.rng;
         let muid = |n: u32| Muid::from_u32(n).expect("a number of 28 bits");
         let header = CiHeader {
@@ -225,7 +243,7 @@ impl Script {
             dest: muid(rng.next() as u32 >> 4),
         };
         let mut body = PeMessage { header, pe_payload: chunk }.to_vec().expect("a message that can be written");
-        if rng.once_in(self.wrong_in) {
+        if !first_list && rng.once_in(self.wrong_in) {
             match rng.below(4) {
                 0 => super::change(rng, &mut body[..13]),
                 1 => body.truncate(rng.below(14)),

@@ -121,24 +121,25 @@ fn play(sides: &mut Sides, seed: u64, run: u64, tally: &mut Tally) -> Result<(),
     all().map_err(|difference| (difference, Played { start, calls }))
 }
 
-/// Do these calls on fresh memory differ?
-fn differ(start: Start, calls: &[Call]) -> bool {
+/// How these calls differ on fresh memory, if they do.
+fn difference(start: Start, calls: &[Call]) -> Option<String> {
     let mut sides = Sides::new();
-    let Ok(mut pair) = sides.make(start, u64::MAX, true) else { return true };
-    calls.iter().any(|call| pair.call(call, &mut Tally::default()).is_err())
+    match sides.make(start, u64::MAX, true) {
+        Ok(mut pair) => calls.iter().find_map(|call| pair.call(call, &mut Tally::default()).err()),
+        Err(difference) => Some(difference),
+    }
 }
 
-/// Leaves out each call without which the rest still differs.
-fn shortened(mut played: Played) -> Played {
-    if differ(played.start, &played.calls) {
-        for at in (0..played.calls.len()).rev() {
-            let call = played.calls.remove(at);
-            if !differ(played.start, &played.calls) {
-                played.calls.insert(at, call);
-            }
+/// The difference with the fewest calls: each is left out without which the rest still differs.
+fn shortened(mut found: String, mut played: Played) -> (String, Played) {
+    for at in (0..played.calls.len()).rev() {
+        let call = played.calls.remove(at);
+        match difference(played.start, &played.calls) {
+            Some(shorter) => found = shorter,
+            None => played.calls.insert(at, call),
         }
     }
-    played
+    (found, played)
 }
 
 /// All runs. A difference is told with the fewest calls that show it.
@@ -147,7 +148,7 @@ pub fn compare(seed: u64, runs: u64) -> Result<Tally, String> {
     let mut tally = Tally::default();
     for run in 0..runs {
         play(&mut sides, seed, run, &mut tally).map_err(|(difference, played)| {
-            let Played { start, calls } = shortened(played);
+            let (difference, Played { start, calls }) = shortened(difference, played);
             let lines: Vec<String> = calls.iter().map(|call| format!("\n  {call}")).collect();
             format!("run {run}: {difference}\n  {start:?}{}", lines.concat())
         })?;
