@@ -32,6 +32,7 @@ pub struct Call {
 
 #[derive(Clone)]
 pub enum What {
+    New,
     Feed { peer: u32, raw_chunk: Vec<u8>, now_ms: u64 },
     FeedMessage { body: Vec<u8>, now_ms: u64 },
     Cancel { peer: u32, request_id: u8 },
@@ -42,18 +43,19 @@ pub enum What {
 }
 
 impl What {
-    pub const NAMES: [&'static str; 7] =
-        ["feed", "feed_message", "cancel", "drop_peer", "poll", "memory_stats", "reserved_bytes"];
+    pub const NAMES: [&'static str; 8] =
+        ["new", "feed", "feed_message", "cancel", "drop_peer", "poll", "memory_stats", "reserved_bytes"];
 
     pub fn name(&self) -> &'static str {
         Self::NAMES[match self {
-            What::Feed { .. } => 0,
-            What::FeedMessage { .. } => 1,
-            What::Cancel { .. } => 2,
-            What::DropPeer { .. } => 3,
-            What::Poll { .. } => 4,
-            What::MemoryStats => 5,
-            What::ReservedBytes => 6,
+            What::New => 0,
+            What::Feed { .. } => 1,
+            What::FeedMessage { .. } => 2,
+            What::Cancel { .. } => 3,
+            What::DropPeer { .. } => 4,
+            What::Poll { .. } => 5,
+            What::MemoryStats => 6,
+            What::ReservedBytes => 7,
         }]
     }
 
@@ -70,6 +72,7 @@ impl What {
         let numbers = 1 + 38 * max_peers;
         let slots = 4 * max_peers;
         match self {
+            What::New => vec![numbers, slots * FRAGMENT_RECORDS, slots * HEADER_BYTES, slots * TX_BYTES],
             What::Feed { .. } | What::FeedMessage { .. } => {
                 vec![numbers, slots * FRAGMENT_RECORDS, slots * HEADER_BYTES, slots * TX_BYTES, HEADER_BYTES, TX_BYTES]
             }
@@ -92,7 +95,7 @@ impl fmt::Display for Call {
             What::Cancel { peer, request_id } => write!(f, " peer {peer:07X} id {request_id}"),
             What::DropPeer { peer } => write!(f, " peer {peer:07X}"),
             What::Poll { now_ms } => write!(f, " at {now_ms}"),
-            What::MemoryStats | What::ReservedBytes => Ok(()),
+            What::New | What::MemoryStats | What::ReservedBytes => Ok(()),
         }
     }
 }

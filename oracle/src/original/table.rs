@@ -8,7 +8,7 @@ use midici_pe::reassembler::{ReassembleEvent, Reassembler};
 type Fed = Result<Option<ReassembleEvent>, Refusal>;
 
 /// The original's answer. It is lent no memory, and its type holds no number above 28 bits: document 01's first two questions
-/// are put here.
+/// are put here. Whoever calls `new` makes another table where it is granted.
 pub fn call(r: &mut Reassembler, call: &Call) -> (Told, Written) {
     let mut written = Written::default();
     let numbers = ask(call).and_then(|peer| answer(r, &call.what, peer, &mut written));
@@ -29,6 +29,7 @@ fn ask(call: &Call) -> Result<Muid, Refusal> {
 
 fn answer(r: &mut Reassembler, what: &What, peer: Muid, written: &mut Written) -> Result<[u64; 3], Refusal> {
     Ok(match what {
+        What::New => [0; 3],
         What::Feed { raw_chunk, now_ms, .. } => fed(r.feed(peer, raw_chunk, *now_ms).map_err(Refusal::from), written)?,
         What::FeedMessage { body, now_ms } => fed(feed_message(r, body, *now_ms), written)?,
         What::Cancel { request_id, .. } => [r.cancel(peer, *request_id).into(), 0, 0],

@@ -83,21 +83,23 @@ impl Script {
     }
 
     fn what(&mut self, r: &Reassembler) -> What {
-        match self.rng.below(64) {
+        match self.rng.below(128) {
             _ if self.is_first_list() => self.feed_first(),
-            0..=1 => self.cancel(r),
-            2 => What::DropPeer { peer: self.named() },
-            3..=6 => What::Poll { now_ms: self.poll_time(r) },
-            7..=8 => What::MemoryStats,
-            9 => What::ReservedBytes,
-            10 => self.feed_any(),
+            0..=3 => self.cancel(r),
+            4..=5 => What::DropPeer { peer: self.named() },
+            6..=13 => What::Poll { now_ms: self.poll_time(r) },
+            14..=17 => What::MemoryStats,
+            18 => What::ReservedBytes,
+            19 => What::New,
+            20..=21 => self.feed_any(),
             _ => self.feed(),
         }
     }
 
-    /// Once in forty what is lent is not right.
+    /// Once in forty what is lent is not right; of `new`, which ends all that is open, mostly.
     fn lent(&mut self, what: &What) -> Lent {
-        if self.is_first_list() || !self.rng.once_in(40) {
+        let right = if matches!(what, What::New) { self.rng.once_in(8) } else { !self.rng.once_in(40) };
+        if right || self.is_first_list() {
             return Lent::Right;
         }
         let needs = what.needs(self.start.max_peers);

@@ -11,6 +11,7 @@ use std::collections::BTreeMap;
 
 /// One run in so many has all rooms compared after every call; the others when they end.
 const CLOSELY: u64 = 64;
+const LONGEST_SHORTENED: usize = 100;
 
 /// Both sides, with memory that a table takes over from the one before it.
 struct Sides {
@@ -37,11 +38,11 @@ impl Sides {
     fn new() -> Sides {
         let bytes = |n: usize, step: usize| (0..n).map(|at| (at * step >> 3) as u8).collect::<Vec<u8>>();
         let (headers, arenas) = (bytes(MAX_SLOTS * HEADER_BYTES, 13), bytes(MAX_SLOTS * TX_BYTES, 29));
-        Sides { table: Table::new(&headers, &arenas, 0), rooms: Rooms::new(&headers, &arenas) }
+        Sides { table: Table::new(&headers, &arenas), rooms: Rooms::new(&headers, &arenas) }
     }
 
-    /// Makes a table on both sides.
-    fn make(&mut self, start: Start, garbage: u64, closely: bool) -> Result<Pair<'_>, String> {
+    /// Makes a table on both sides. After the call the clock is set, where the run starts with another.
+    fn make(&mut self, start: Start, garbage: u64, closely: bool, tally: &mut Tally) -> Result<Pair<'_>, String> {
         let mut original = Reassembler::new(start.max_peers);
         self.rooms.lend(&mut original);
         if let Some(clock) = start.clock {
@@ -51,9 +52,9 @@ impl Sides {
         if told != (Told { refusal: 0, value: 0, numbers: [0; 3] }) {
             return Err(format!("new answers {told:?}"));
         }
+        tally.count(&What::New, told);
         let pair = Pair { sides: self, original, garbage, closely };
-        pair.state()?;
-        state::compare_rooms(&pair.sides.table, &pair.original)?;
+        tally.bytes += pair.state()? + state::compare_rooms(&pair.sides.table, &pair.original)?;
         Ok(pair)
     }
 }
@@ -62,17 +63,26 @@ impl Pair<'_> {
     /// Puts a call to both sides.
     fn call(&mut self, call: &Call, tally: &mut Tally) -> Result<(), String> {
         let (expected, written) = original::table::call(&mut self.original, call);
+        if matches!(call.what, What::New) && expected.refusal == 0 {
+            self.renew();
+        }
         let found = self.sides.table.call(call);
         if expected != found {
             return Err(format!("the original answers {expected:?}, the port {found:?}"));
         }
-        tally.calls += 1;
+        tally.count(&call.what, found);
         tally.bytes += self.sides.table.outputs(&call.what, &written)? + self.state()?;
-        *tally.answers.entry((call.what.name(), answer(&call.what, found))).or_default() += 1;
         if self.closely {
             tally.bytes += state::compare_rooms(&self.sides.table, &self.original)?;
         }
         Ok(())
+    }
+
+    /// Another table of the original.
+    fn renew(&mut self) {
+        self.sides.rooms.take_back(&mut self.original);
+        self.original = Reassembler::new(probe::max_peers(&self.original));
+        self.sides.rooms.lend(&mut self.original);
     }
 
     fn state(&self) -> Result<u64, String> {
@@ -92,7 +102,7 @@ fn answer(what: &What, told: Told) -> Answer {
         _ if told.refusal != 0 => Answer::Refused(told.refusal),
         What::Feed { .. } | What::FeedMessage { .. } if told.numbers[0] == 0 => Answer::Waiting,
         What::Feed { .. } | What::FeedMessage { .. } => Answer::Whole,
-        What::MemoryStats | What::ReservedBytes => Answer::Granted,
+        What::New | What::MemoryStats | What::ReservedBytes => Answer::Granted,
         _ if told.numbers[0] == 0 => Answer::No,
         _ => Answer::Yes,
     }
@@ -110,7 +120,7 @@ fn play(sides: &mut Sides, seed: u64, run: u64, tally: &mut Tally) -> Result<(),
     let start = script.start();
     let mut calls = Vec::new();
     let mut all = || {
-        let mut pair = sides.make(start, garbage, run % CLOSELY == 0)?;
+        let mut pair = sides.make(start, garbage, run % CLOSELY == 0, tally)?;
         while let Some(call) = script.next(&pair.original) {
             calls.push(call);
             pair.call(&calls[calls.len() - 1], tally)?;
@@ -123,15 +133,19 @@ fn play(sides: &mut Sides, seed: u64, run: u64, tally: &mut Tally) -> Result<(),
 
 /// How these calls differ on fresh memory, if they do.
 fn difference(start: Start, calls: &[Call]) -> Option<String> {
-    let mut sides = Sides::new();
-    match sides.make(start, u64::MAX, true) {
-        Ok(mut pair) => calls.iter().find_map(|call| pair.call(call, &mut Tally::default()).err()),
+    let (mut sides, mut tally) = (Sides::new(), Tally::default());
+    match sides.make(start, u64::MAX, true, &mut tally) {
+        Ok(mut pair) => calls.iter().find_map(|call| pair.call(call, &mut tally).err()),
         Err(difference) => Some(difference),
     }
 }
 
-/// The difference with the fewest calls: each is left out without which the rest still differs.
+/// The difference with the fewest calls: each is left out without which the rest still differs. A run with a list of some 2,048
+/// chunks stays as it is.
 fn shortened(mut found: String, mut played: Played) -> (String, Played) {
+    if played.calls.len() > LONGEST_SHORTENED {
+        return (found, played);
+    }
     for at in (0..played.calls.len()).rev() {
         let call = played.calls.remove(at);
         match difference(played.start, &played.calls) {
@@ -149,14 +163,20 @@ pub fn compare(seed: u64, runs: u64) -> Result<Tally, String> {
     for run in 0..runs {
         play(&mut sides, seed, run, &mut tally).map_err(|(difference, played)| {
             let (difference, Played { start, calls }) = shortened(difference, played);
-            let lines: Vec<String> = calls.iter().map(|call| format!("\n  {call}")).collect();
-            format!("run {run}: {difference}\n  {start:?}{}", lines.concat())
+            let shown = &calls[calls.len().saturating_sub(LONGEST_SHORTENED)..];
+            let lines: Vec<String> = shown.iter().map(|call| format!("\n  {call}")).collect();
+            format!("run {run}, {} calls: {difference}\n  {start:?}{}", calls.len(), lines.concat())
         })?;
     }
     Ok(tally)
 }
 
 impl Tally {
+    fn count(&mut self, what: &What, told: Told) {
+        self.calls += 1;
+        *self.answers.entry((what.name(), answer(what, told))).or_default() += 1;
+    }
+
     /// How often each call got each answer.
     pub fn lines(&self) -> Vec<String> {
         let line = |name: &'static str| {

@@ -81,5 +81,8 @@ pub fn compare_rooms(table: &Table, r: &Reassembler) -> Result<u64, String> {
             return Err(format!("body room {slot} is not kept"));
         }
     }
+    if !table.is_kept_behind() {
+        return Err("what lies behind the rooms is not kept".into());
+    }
     Ok((table.slots() * (HEADER_BYTES + 8 * FRAGMENT_RECORDS + TX_BYTES)) as u64)
 }

@@ -33,15 +33,16 @@ struct Shape {
 }
 
 impl Table {
-    /// Memory with such bytes in its rooms, and garbage elsewhere.
-    pub fn new(headers: &[u8], arenas: &[u8], garbage: u64) -> Table {
+    /// Memory with such bytes in its rooms.
+    pub fn new(headers: &[u8], arenas: &[u8]) -> Table {
         let longer = |bytes: &[u8]| [bytes, &[0xC3; BEHIND]].concat();
+        let index = [vec![0; MAX_SLOTS * FRAGMENT_RECORDS], vec![0xC3; BEHIND]].concat();
         let bytes_before: Vec<u8> = (0..TX_BYTES + BEHIND).map(crate::fill).collect();
         let words_before: Vec<u64> = (0..MAX_SLOTS + BEHIND).map(|at| 0xA5A5_0000_0000_0000 + at as u64).collect();
         Table {
             start: Start { max_peers: 0, spare: 0, clock: None },
-            numbers: vec![garbage; 1 + 38 * MAX_PEERS + BEHIND],
-            index: vec![garbage; MAX_SLOTS * FRAGMENT_RECORDS + BEHIND],
+            numbers: vec![0; 1 + 38 * MAX_PEERS + BEHIND],
+            index,
             headers: longer(headers),
             arenas: longer(arenas),
             out_header: bytes_before[..HEADER_BYTES + BEHIND].to_vec(),
@@ -62,31 +63,20 @@ impl Table {
         4 * self.start.max_peers
     }
 
-    /// Makes a table where another was, with garbage in its numbers.
+    /// Is what lies behind the largest table's rooms as it was?
+    pub fn is_kept_behind(&self) -> bool {
+        let headers = &self.headers[MAX_SLOTS * HEADER_BYTES..];
+        let arenas = &self.arenas[MAX_SLOTS * TX_BYTES..];
+        let index = &self.index[MAX_SLOTS * FRAGMENT_RECORDS..];
+        headers == [0xC3; BEHIND] && arenas == [0xC3; BEHIND] && index == [0xC3; BEHIND]
+    }
+
+    /// Makes a table where another was, with garbage in its numbers and here and there in its records.
     pub fn make(&mut self, start: Start, garbage: u64) -> Told {
         self.start = start;
         self.numbers.fill(garbage);
-        self.index.iter_mut().step_by(641).for_each(|word| *word = garbage);
-        let shape = self.shape(Lent::Right);
-        let spare = start.spare;
-        let (numbers, index) = (self.words() + spare, self.slots() * FRAGMENT_RECORDS + spare);
-        let (headers, arenas) = (self.slots() * HEADER_BYTES + spare, self.slots() * TX_BYTES + spare);
-        let told = counted(unsafe {
-            ffi::midici_pe_new(
-                shape.max_peers,
-                shape.header_bytes,
-                shape.tx_bytes,
-                shape.fragment_records,
-                self.numbers[..numbers].as_mut_ptr(),
-                numbers,
-                self.index[..index].as_mut_ptr(),
-                index,
-                self.headers[..headers].as_ptr(),
-                headers,
-                self.arenas[..arenas].as_ptr(),
-                arenas,
-            )
-        });
+        self.index[..MAX_SLOTS * FRAGMENT_RECORDS].iter_mut().step_by(641).for_each(|word| *word = garbage);
+        let told = self.call(&Call { lent: Lent::Right, what: What::New });
         if let Some(clock) = start.clock {
             self.numbers[0] = clock;
         }
@@ -117,11 +107,35 @@ impl Table {
         let shape = self.shape(call.lent);
         let lengths = self.lengths(call);
         match &call.what {
+            What::New => self.new_table(&shape, &lengths),
             What::Feed { peer, raw_chunk, now_ms } => self.feed(&shape, &lengths, Some(*peer), raw_chunk, *now_ms),
             What::FeedMessage { body, now_ms } => self.feed(&shape, &lengths, None, body, *now_ms),
             What::Poll { now_ms } => self.poll(&shape, &lengths, *now_ms),
             what => self.other(&shape, &lengths, what),
         }
+    }
+
+    fn new_table(&mut self, shape: &Shape, lengths: &[usize]) -> Told {
+        let numbers = &mut self.numbers[..lengths[0]];
+        let index = &mut self.index[..lengths[1]];
+        let headers = &self.headers[..lengths[2]];
+        let arenas = &self.arenas[..lengths[3]];
+        counted(unsafe {
+            ffi::midici_pe_new(
+                shape.max_peers,
+                shape.header_bytes,
+                shape.tx_bytes,
+                shape.fragment_records,
+                numbers.as_mut_ptr(),
+                numbers.len(),
+                index.as_mut_ptr(),
+                index.len(),
+                headers.as_ptr(),
+                headers.len(),
+                arenas.as_ptr(),
+                arenas.len(),
+            )
+        })
     }
 
     /// A chunk of a peer, or a message.
@@ -223,7 +237,7 @@ impl Table {
                 Told { refusal, value, numbers: [reserved_bytes, active_bytes, active_slots] }
             }
             What::ReservedBytes => counted(unsafe { ffi::midici_pe_reserved_bytes(n, h, b, r) }),
-            _ => unreachable!("a feed or a poll"),
+            _ => unreachable!("a call that is lent more"),
         }
     }
 
