@@ -4,6 +4,7 @@ pub mod Turn
 pub mod OrderLaws
 pub mod OrderHeldLaws
 pub mod OrderJoinLaws
+pub mod PlacedLaws
 pub mod SlotHeaders
 pub mod SlotMemory
 pub mod JudgeLaws
