@@ -1,0 +1,450 @@
+/* The hub's program: the week of one scene list.
+ *
+ * A mixer sends its scene list to the hub, in chunks, by two cables. Both ends are played here: the mixer's side cuts the
+ * list and writes the messages, the hub's side feeds what arrives and puts the list together. Each step is printed, with
+ * the bytes that travel. At the end what arrived is compared with what was sent: the exit status is 0 if it is the same,
+ * 1 if it is not or if a call answered something else than the step expects. */
+#include "midici_pe.h"
+
+#include <inttypes.h>
+#include <stdbool.h>
+#include <stdio.h>
+#include <stdlib.h>
+#include <string.h>
+
+enum {
+    PEERS = 4,
+    HEADER_BYTES = MIDICI_PE_HEADER_BYTES,
+    TX_BYTES = MIDICI_PE_TX_BYTES,
+    RECORDS = MIDICI_PE_FRAGMENT_RECORDS,
+    PLACES = MIDICI_PE_PLACES(PEERS),
+
+    LIST_HEADER_LEN = 48,
+    LIST_BODY_LEN = 1000,
+    MAX_SYSEX = 256, /* no message is longer, F0 and F7 included */
+    CHUNKS = 5,
+
+    GET = 0x34,       /* the kind of a message that asks for a list */
+    GET_REPLY = 0x35, /* the kind of a message that brings one */
+    SYSEX_START = 0xF0,
+    SYSEX_END = 0xF7,
+
+    DAY_MS = 24 * 60 * 60 * 1000
+};
+
+/* The MUIDs of the devices. */
+enum { HUB = 0x0123456, MIXER = 0x0A1B2C3, KEYBOARD = 0x0000011, DRUMS = 0x0000022, LIGHTS = 0x0FFFFFFF };
+
+/* The table's memory, which is lent with each call. */
+static uint64_t numbers[MIDICI_PE_NUMBERS_LEN(PEERS)];
+static uint64_t fragment_index[MIDICI_PE_INDEX_LEN(PEERS, RECORDS)];
+static uint8_t headers[MIDICI_PE_HEADERS_LEN(PEERS, HEADER_BYTES)];
+static uint8_t arenas[MIDICI_PE_ARENAS_LEN(PEERS, TX_BYTES)];
+
+/* A list as its sender has it. */
+struct list {
+    uint32_t sender;
+    uint8_t request_id;
+    size_t header_len, body_len;
+    uint8_t header[LIST_HEADER_LEN], body[LIST_BODY_LEN];
+};
+
+/* A message as it travels, from F0 to F7. */
+struct message {
+    size_t len;
+    uint8_t bytes[MAX_SYSEX];
+};
+
+/* What a call wrote when a list was whole. */
+struct received {
+    size_t header_len, body_len;
+    uint8_t header[HEADER_BYTES], body[TX_BYTES];
+};
+
+/* ---- What is printed ---- */
+
+static void must(bool as_expected, const char *step)
+{
+    if (as_expected)
+        return;
+    printf("\nNot as expected: %s.\n", step);
+    exit(1);
+}
+
+static const char *name_of(uint64_t muid)
+{
+    switch (muid) {
+    case HUB:
+        return "hub";
+    case MIXER:
+        return "mixer";
+    case KEYBOARD:
+        return "keyboard";
+    case DRUMS:
+        return "drums";
+    case LIGHTS:
+        return "lights";
+    default:
+        return "stranger";
+    }
+}
+
+/* The first bytes and the last ones. */
+static void print_bytes(const uint8_t *bytes, size_t len)
+{
+    const size_t first = 28, last = 4;
+    for (size_t i = 0; i < len; i++) {
+        if (len > first + last && i == first) {
+            printf(" ..");
+            i = len - last;
+        }
+        printf(" %02X", bytes[i]);
+    }
+    printf("\n");
+}
+
+static void print_message(const char *cable, uint32_t from, uint32_t to, const struct message *message)
+{
+    printf("  cable %s, %s to %s, %zu bytes:\n     ", cable, name_of(from), name_of(to), message->len);
+    print_bytes(message->bytes, message->len);
+}
+
+static const char *in_words(uint8_t refusal)
+{
+    switch (refusal) {
+    case MIDICI_PE_TRUNCATED:
+        return "the chunk ends too early";
+    case MIDICI_PE_INCONSISTENT_CHUNKING:
+        return "it does not go with the chunks before it";
+    default:
+        return "midici_pe.h says what it means";
+    }
+}
+
+static void print_fed(midici_pe_fed answer)
+{
+    if (answer.refusal != MIDICI_PE_OK)
+        printf("      The table refuses it: number %d, %s.\n", answer.refusal, in_words(answer.refusal));
+    else if (answer.whole)
+        printf("      The list is whole: %" PRIu64 " bytes of header, %" PRIu64 " of body.\n", answer.header_len,
+               answer.body_len);
+    else
+        printf("      Taken. Chunks are still missing.\n");
+}
+
+/* ---- The sender's side ---- */
+
+static void fill_scene_list(struct list *list, uint8_t request_id)
+{
+    enum { LINE = 25 };
+    const char *header = "{\"status\":200,\"resource\":\"SceneList\",\"total\":40}";
+    char line[LINE + 1];
+    list->sender = MIXER;
+    list->request_id = request_id;
+    list->header_len = LIST_HEADER_LEN;
+    list->body_len = LIST_BODY_LEN;
+    must(strlen(header) == LIST_HEADER_LEN, "the header has 48 bytes");
+    memcpy(list->header, header, LIST_HEADER_LEN);
+    for (int scene = 0; scene < LIST_BODY_LEN / LINE; scene++) {
+        int len = snprintf(line, sizeof line, "Scene %03d, fader at %03d.\n", scene + 1, scene * 7 % 128);
+        must(len == LINE, "a line of the list has 25 bytes");
+        memcpy(list->body + scene * LINE, line, LINE);
+    }
+}
+
+/* A shorter list of two chunks. */
+static struct list other_list(uint32_t sender, uint8_t request_id)
+{
+    struct list list = {.sender = sender, .request_id = request_id, .header_len = 20, .body_len = 300};
+    memcpy(list.header, "{\"resource\":\"State\"}", list.header_len);
+    memset(list.body, name_of(sender)[0], list.body_len);
+    return list;
+}
+
+static uint64_t count_chunks(const struct list *list)
+{
+    midici_pe_answer count =
+        midici_pe_chunk_count(list->request_id, list->header, list->header_len, list->body, list->body_len, MAX_SYSEX);
+    must(count.refusal == MIDICI_PE_OK, "the list can be cut");
+    return count.count;
+}
+
+/* A message around `len` bytes that already stand behind its F0. */
+static void close_message(struct message *message, uint64_t len)
+{
+    message->bytes[0] = SYSEX_START;
+    message->bytes[1 + len] = SYSEX_END;
+    message->len = 1 + (size_t)len + 1;
+}
+
+/* The message that asks the mixer for its list. */
+static struct message question(uint8_t request_id)
+{
+    const char *header = "{\"resource\":\"SceneList\"}";
+    struct message message;
+    midici_pe_answer written = midici_pe_encode_message(GET, HUB, MIXER, request_id, (const uint8_t *)header,
+                                                        strlen(header), 1, 1, NULL, 0, message.bytes + 1, MAX_SYSEX - 2);
+    must(written.refusal == MIDICI_PE_OK, "the question can be written");
+    close_message(&message, written.count);
+    return message;
+}
+
+/* The message with one chunk of a list: a CI header, written with an empty chunk, and the cut chunk in that one's place. */
+static struct message message_with_chunk(const struct list *list, uint16_t chunk_num)
+{
+    struct message message;
+    uint8_t *ci_header = message.bytes + 1, *chunk = ci_header + MIDICI_PE_CI_HEADER_LEN;
+    midici_pe_answer written = midici_pe_encode_message(GET_REPLY, list->sender, HUB, list->request_id, NULL, 0, 1, 1, NULL,
+                                                        0, ci_header, MAX_SYSEX - 2);
+    must(written.refusal == MIDICI_PE_OK, "the CI header can be written");
+    written = midici_pe_split_chunk(list->request_id, list->header, list->header_len, list->body, list->body_len, MAX_SYSEX,
+                                    chunk_num, chunk, MAX_SYSEX - 2 - MIDICI_PE_CI_HEADER_LEN);
+    must(written.refusal == MIDICI_PE_OK, "the chunk can be cut");
+    close_message(&message, MIDICI_PE_CI_HEADER_LEN + written.count);
+    return message;
+}
+
+/* ---- The hub's side ---- */
+
+static void make_table(void)
+{
+    midici_pe_answer made =
+        midici_pe_new(PEERS, HEADER_BYTES, TX_BYTES, RECORDS, numbers, MIDICI_PE_NUMBERS_LEN(PEERS), fragment_index,
+                      MIDICI_PE_INDEX_LEN(PEERS, RECORDS), headers, sizeof headers, arenas, sizeof arenas);
+    must(made.refusal == MIDICI_PE_OK, "the table is made");
+}
+
+/* What cable A's port does: it hands over the whole message, F0 and F7 taken off. */
+static midici_pe_fed arrive_whole(const struct message *message, uint64_t now_ms, struct received *received)
+{
+    return midici_pe_feed_message(PEERS, HEADER_BYTES, TX_BYTES, RECORDS, numbers, MIDICI_PE_NUMBERS_LEN(PEERS),
+                                  fragment_index, MIDICI_PE_INDEX_LEN(PEERS, RECORDS), headers, sizeof headers, arenas,
+                                  sizeof arenas, message->bytes + 1, message->len - 2, now_ms, received->header,
+                                  HEADER_BYTES, received->body, TX_BYTES);
+}
+
+/* What cable B's port does: it has read the CI header itself, and hands over the chunk behind it and its sender. */
+static midici_pe_fed arrive_bare(uint32_t sender, const struct message *message, uint64_t now_ms, struct received *received)
+{
+    size_t before = 1 + MIDICI_PE_CI_HEADER_LEN;
+    return midici_pe_feed(PEERS, HEADER_BYTES, TX_BYTES, RECORDS, numbers, MIDICI_PE_NUMBERS_LEN(PEERS), fragment_index,
+                          MIDICI_PE_INDEX_LEN(PEERS, RECORDS), headers, sizeof headers, arenas, sizeof arenas, sender,
+                          message->bytes + before, message->len - before - 1, now_ms, received->header, HEADER_BYTES,
+                          received->body, TX_BYTES);
+}
+
+static midici_pe_fed arrive(char cable, uint32_t sender, const struct message *message, uint64_t now_ms,
+                            struct received *received)
+{
+    midici_pe_fed answer =
+        cable == 'A' ? arrive_whole(message, now_ms, received) : arrive_bare(sender, message, now_ms, received);
+    if (answer.whole) {
+        received->header_len = (size_t)answer.header_len;
+        received->body_len = (size_t)answer.body_len;
+    }
+    print_fed(answer);
+    return answer;
+}
+
+/* One chunk on its way: cut, written, sent by a cable, fed to the table. */
+static midici_pe_fed send_chunk(char cable, const struct list *list, uint16_t chunk_num, uint64_t now_ms,
+                                struct received *received)
+{
+    struct message message = message_with_chunk(list, chunk_num);
+    printf("  %4" PRIu64 " ms: chunk %u of %" PRIu64 " from the %s comes by cable %c, in a message of %zu bytes:\n     ",
+           now_ms % DAY_MS, chunk_num, count_chunks(list), name_of(list->sender), cable, message.len);
+    print_bytes(message.bytes, message.len);
+    return arrive(cable, list->sender, &message, now_ms, received);
+}
+
+static void expect_waiting(midici_pe_fed answer)
+{
+    must(answer.refusal == MIDICI_PE_OK && !answer.whole, "the chunk is taken");
+}
+
+static void expect_refused(midici_pe_fed answer, uint8_t refusal)
+{
+    must(answer.refusal == refusal, "the chunk is refused");
+}
+
+static void expect_whole(midici_pe_fed answer, const struct list *list)
+{
+    must(answer.whole && answer.header_len == list->header_len && answer.body_len == list->body_len, "the list is whole");
+}
+
+static void print_totals(uint64_t expected_open)
+{
+    midici_pe_stats stats =
+        midici_pe_memory_stats(PEERS, HEADER_BYTES, TX_BYTES, RECORDS, numbers, MIDICI_PE_NUMBERS_LEN(PEERS));
+    printf("  Totals: %" PRIu64 " bytes of memory, %" PRIu64 " lists open, %" PRIu64 " bytes held for them.\n",
+           stats.reserved_bytes, stats.active_slots, stats.active_bytes);
+    must(stats.refusal == MIDICI_PE_OK && stats.active_slots == expected_open, "so many lists are open");
+}
+
+static void print_open_lists(uint64_t expected_open)
+{
+    uint64_t peers[PLACES], request_ids[PLACES], chunks_held[PLACES];
+    midici_pe_answer open =
+        midici_pe_open_list(PEERS, HEADER_BYTES, TX_BYTES, RECORDS, numbers, MIDICI_PE_NUMBERS_LEN(PEERS), peers, PLACES,
+                            request_ids, PLACES, chunks_held, PLACES);
+    must(open.refusal == MIDICI_PE_OK && open.count == expected_open, "so many lists are open");
+    printf("  The open lists:\n");
+    for (uint64_t i = 0; i < open.count; i++)
+        printf("      %-8s  request number %" PRIu64 ", chunks held: %" PRIu64 "\n", name_of(peers[i]), request_ids[i],
+               chunks_held[i]);
+}
+
+/* Closes what has waited too long; how many lists that must be is expected. */
+static void poll_table(uint64_t now_ms, uint64_t expected_closed)
+{
+    uint64_t peers[PLACES], request_ids[PLACES];
+    midici_pe_answer closed = midici_pe_poll(PEERS, HEADER_BYTES, TX_BYTES, RECORDS, numbers, MIDICI_PE_NUMBERS_LEN(PEERS),
+                                             now_ms, peers, PLACES, request_ids, PLACES);
+    printf("  %4" PRIu64 " ms: the hub looks for lists without a chunk for %d ms, and closes %" PRIu64 ".\n",
+           now_ms % DAY_MS, MIDICI_PE_TIMEOUT_MS, closed.count);
+    for (uint64_t i = 0; i < closed.count; i++)
+        printf("      %s, request number %" PRIu64 "\n", name_of(peers[i]), request_ids[i]);
+    must(closed.refusal == MIDICI_PE_OK && closed.count == expected_closed, "so many lists are closed");
+}
+
+/* ---- The week ---- */
+
+static void monday(void)
+{
+    printf("\nMonday: the hub is switched on\n");
+    make_table();
+    printf("  It lends memory to a table for %d peers, with up to four open lists each.\n", PEERS);
+    print_totals(0);
+}
+
+/* The hub's question gets a request number; the mixer's answer will carry the same one. */
+static uint8_t tuesday(void)
+{
+    printf("\nTuesday: the hub asks the mixer for its scene list\n");
+    midici_pe_request_id allocated = midici_pe_alloc_out_request_id(1);
+    printf("  The question gets request number %d; the next one will get %d.\n", allocated.request_id, allocated.counter);
+    struct message message = question(allocated.request_id);
+    print_message("A", HUB, MIXER, &message);
+    return allocated.request_id;
+}
+
+static void print_cut(const struct list *list)
+{
+    printf("  The mixer's list has %zu bytes of header and %zu of body. No message may be longer than %d bytes.\n",
+           list->header_len, list->body_len, MAX_SYSEX);
+    printf("  The header:");
+    print_bytes(list->header, list->header_len);
+    printf("  The body:  ");
+    print_bytes(list->body, list->body_len);
+    printf("  So it is cut into %" PRIu64 " chunks, whose messages have", count_chunks(list));
+    must(count_chunks(list) == CHUNKS, "there are five chunks");
+    for (uint16_t chunk_num = 1; chunk_num <= CHUNKS; chunk_num++)
+        printf(" %zu%s", message_with_chunk(list, chunk_num).len, chunk_num < CHUNKS ? "," : " bytes.\n");
+}
+
+static void wednesday(const struct list *list, struct received *received)
+{
+    const uint64_t day = 2 * (uint64_t)DAY_MS;
+    struct message message;
+    printf("\nWednesday: the mixer answers, and somebody pulls a plug\n");
+    print_cut(list);
+    expect_waiting(send_chunk('A', list, 1, day, received));
+    message = message_with_chunk(list, 2);
+    close_message(&message, 100);
+    printf("     5 ms: the plug of cable B is pulled in the middle of chunk 2. The hub gets a message of %zu bytes:\n     ",
+           message.len);
+    print_bytes(message.bytes, message.len);
+    expect_refused(arrive('B', MIXER, &message, day + 5, received), MIDICI_PE_TRUNCATED);
+    printf("      A chunk that cannot be read changes nothing, so the list's last chunk is still that of 0 ms.\n");
+    poll_table(day + MIDICI_PE_TIMEOUT_MS, 1);
+    printf("      Too late: the hub gives up what it had of the list.\n");
+    print_totals(0);
+}
+
+static void cancel_and_drop(uint8_t request_id)
+{
+    midici_pe_answer cancelled = midici_pe_cancel(PEERS, HEADER_BYTES, TX_BYTES, RECORDS, numbers,
+                                                  MIDICI_PE_NUMBERS_LEN(PEERS), KEYBOARD, request_id);
+    printf("  The hub cancels request %d of the keyboard: lists closed: %" PRIu64 ".\n", request_id, cancelled.count);
+    must(cancelled.refusal == MIDICI_PE_OK && cancelled.count == 1, "one list is cancelled");
+    midici_pe_answer dropped =
+        midici_pe_drop_peer(PEERS, HEADER_BYTES, TX_BYTES, RECORDS, numbers, MIDICI_PE_NUMBERS_LEN(PEERS), DRUMS);
+    printf("  The drums are switched off, and the hub drops them: lists closed: %" PRIu64 ".\n", dropped.count);
+    must(dropped.refusal == MIDICI_PE_OK && dropped.count == 1, "one list is dropped");
+}
+
+static void begin_others(uint8_t request_id, uint64_t day, struct received *scratch)
+{
+    struct list keyboard = other_list(KEYBOARD, request_id), drums = other_list(DRUMS, request_id),
+                lights = other_list(LIGHTS, request_id);
+    expect_waiting(send_chunk('A', &keyboard, 1, day, scratch));
+    expect_waiting(send_chunk('B', &drums, 1, day, scratch));
+    expect_waiting(send_chunk('A', &lights, 1, day, scratch));
+}
+
+static void thursday(const struct list *list, struct received *received, struct received *scratch)
+{
+    const uint64_t day = 3 * (uint64_t)DAY_MS;
+    struct list lights = other_list(LIGHTS, list->request_id);
+    printf("\nThursday: the mixer tries again, while three others send under the same request number\n");
+    begin_others(list->request_id, day, scratch);
+    expect_waiting(send_chunk('B', list, 3, day + 10, received));
+    expect_waiting(send_chunk('A', list, 1, day + 20, received));
+    expect_waiting(send_chunk('B', list, 5, day + 30, received));
+    expect_refused(send_chunk('A', list, 3, day + 40, received), MIDICI_PE_INCONSISTENT_CHUNKING);
+    printf("      Chunk 3 is there already. The list stays open and keeps what it holds.\n");
+    print_open_lists(4);
+    print_totals(4);
+    poll_table(day + MIDICI_PE_TIMEOUT_MS - 1, 0);
+    printf("      Just in time: nobody has been silent for so long.\n");
+    cancel_and_drop(list->request_id);
+    expect_waiting(send_chunk('A', list, 2, day + MIDICI_PE_TIMEOUT_MS, received));
+    expect_whole(send_chunk('B', &lights, 2, day + 3010, scratch), &lights);
+    print_open_lists(1);
+    expect_whole(send_chunk('B', list, 4, day + 3020, received), list);
+    print_totals(0);
+}
+
+/* Says where two runs of bytes differ first, or that they don't. */
+static bool same_bytes(const char *what, const uint8_t *sent, size_t sent_len, const uint8_t *arrived, size_t arrived_len)
+{
+    if (sent_len != arrived_len) {
+        printf("  The %s differs: %zu bytes were sent, %zu arrived.\n", what, sent_len, arrived_len);
+        return false;
+    }
+    for (size_t i = 0; i < sent_len; i++) {
+        if (sent[i] != arrived[i]) {
+            printf("  The %s differs at byte %zu: %02X was sent, %02X arrived.\n", what, i, sent[i], arrived[i]);
+            return false;
+        }
+    }
+    printf("  The %s is the same: %zu bytes compared.\n", what, sent_len);
+    return true;
+}
+
+static bool friday(const struct list *list, const struct received *received)
+{
+    printf("\nFriday: what arrived is held against what was sent, byte for byte\n");
+    bool header = same_bytes("header", list->header, list->header_len, received->header, received->header_len);
+    bool body = same_bytes("body", list->body, list->body_len, received->body, received->body_len);
+    puts(header && body ? "The scene list has arrived as it was sent." : "The scene list is NOT what was sent.");
+    return header && body;
+}
+
+int main(void)
+{
+    struct received received, scratch;
+    struct list list;
+    printf("The week of one scene list, which goes from a mixer to the hub.\n\n");
+    printf("A peer is a device that sends to the hub. A list is a header and a body. It travels in chunks, each in a "
+           "message of\n"
+           "its own, and a table in the hub's memory puts the chunks together again. A request number says which list of a "
+           "peer\n"
+           "a chunk belongs to. Bytes are hexadecimal, other numbers decimal. Times are counted from the day's first "
+           "chunk.\n");
+    monday();
+    fill_scene_list(&list, tuesday());
+    wednesday(&list, &received);
+    thursday(&list, &received, &scratch);
+    return friday(&list, &received) ? 0 : 1;
+}
