@@ -1,0 +1,50 @@
+/* Checks that are counted, and chunks and messages written byte by byte, without the library. */
+#ifndef CHECK_H
+#define CHECK_H
+
+#include "lent.h"
+
+/* One check. `what` says what should hold, `of` in which case. */
+void check(bool holds, const char *what, const char *of);
+
+/* Prints how many checks were made; the exit status of a program of them. */
+int checks_done(void);
+
+/* A chunk or a message, as bytes. */
+struct bytes {
+    size_t len;
+    uint8_t at[4200];
+};
+
+/* The fields of a chunk; header and property as text. */
+struct fields {
+    uint8_t request_id;
+    const char *header;
+    unsigned num_chunks, chunk_num;
+    const char *property;
+};
+
+void add_byte(struct bytes *bytes, unsigned byte);
+void add_u14(struct bytes *bytes, unsigned number);
+void add_muid(struct bytes *bytes, uint32_t muid);
+void add_bytes(struct bytes *bytes, const void *from, size_t len);
+
+struct bytes chunk_of(struct fields fields);
+struct bytes message_of(uint8_t sub_id2, uint32_t source, uint32_t dest, const struct bytes *chunk);
+
+/* Makes a table of 2 peers with room for headers of 8 bytes, bodies of 32 and 4 chunks. Peer 1 has one list open, with
+ * request id 5, and two of its three chunks are there: FIRST, and one of two bytes. */
+extern const struct fields FIRST;
+void make_begun(struct table *table);
+
+/* Checks a refusal that leaves the table as it was kept. */
+void check_refused(const struct table *table, midici_pe_fed answer, uint8_t refusal, uint8_t value, const char *of);
+
+/* The tests, by subject. */
+void test_sending(void);
+void test_feeding(void);
+void test_table_calls(void);
+void test_unreadable(void);
+void test_lent_memory(void);
+
+#endif

@@ -1,0 +1,12 @@
+/* A test of every export, from C: answers, refusals, and what is written or left. */
+#include "check.h"
+
+int main(void)
+{
+    test_sending();
+    test_feeding();
+    test_table_calls();
+    test_unreadable();
+    test_lent_memory();
+    return checks_done();
+}

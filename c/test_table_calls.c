@@ -1,0 +1,246 @@
+/* Tests of the calls on a table: made, cancelled, dropped, polled, listed and counted; the largest table. */
+#include "check.h"
+
+#include <string.h>
+
+enum { PEERS = 2, HEADER_BYTES = 8, TX_BYTES = 32, RECORDS = 4, EXTRA = 3 };
+
+static void open_one(struct table *table, uint32_t peer, uint8_t request_id, uint64_t now_ms)
+{
+    struct bytes chunk = chunk_of((struct fields){request_id, "HD", 2, 1, "abc"});
+    midici_pe_fed answer = table_feed(table, peer, chunk.at, chunk.len, now_ms);
+    check(answer.refusal == 0 && answer.whole == 0, "a list is opened", "setting up");
+}
+
+/* Four lists: two of peer 1 and two of peer 2, opened in this order at the times 1000, 1001, 1002, 1003. */
+static void make_open(struct table *table)
+{
+    table_make(table, PEERS, HEADER_BYTES, TX_BYTES, RECORDS, EXTRA);
+    check(table_new(table).refusal == 0, "a table is made", "setting up");
+    open_one(table, 1, 11, 1000);
+    open_one(table, 2, 21, 1001);
+    open_one(table, 1, 12, 1002);
+    open_one(table, 2, 22, 1003);
+}
+
+static void test_new(void)
+{
+    struct table table;
+    table_make(&table, PEERS, HEADER_BYTES, TX_BYTES, RECORDS, EXTRA);
+    table_keep(&table);
+    midici_pe_answer answer = table_new(&table);
+    const uint64_t *numbers = lent_words(&table.lent[NUMBERS]), *index = lent_words(&table.lent[INDEX]);
+    bool empty = numbers[0] == 1;
+    for (size_t i = 1; i < 1 + 38 * PEERS; i++)
+        empty = empty && numbers[i] == ((i - 1) % 38 == 1 ? 0x0FFFFFFF : 0);
+    for (size_t i = 0; i < 4 * PEERS * RECORDS; i++)
+        empty = empty && index[i] == 0;
+    check(answer.refusal == 0 && answer.value == 0 && answer.count == 0, "the answer", "new");
+    check(empty, "the numbers and records of an empty table", "new");
+    for (int slice = 0; slice < LENT; slice++) {
+        bool is_written = slice == NUMBERS || slice == INDEX;
+        size_t from = is_written ? table_asks(&table, slice) : 0;
+        check(lent_same_from(&table.lent[slice], from), "all else stays", "new");
+    }
+    check(table_guarded(&table), "nothing is written before a slice", "new");
+    open_one(&table, 1, 11, 0);
+    table_new(&table);
+    check(table_open_list(&table).count == 0, "made again, the table is empty", "new");
+    table_free(&table);
+}
+
+static void test_cancel(void)
+{
+    struct table table;
+    make_open(&table);
+    const struct {
+        uint32_t peer;
+        uint8_t request_id;
+        uint64_t count, open;
+    } cases[] = {{1, 13, 0, 4}, {3, 11, 0, 4}, {1, 255, 0, 4}, {1, 11, 1, 3}, {1, 11, 0, 3}, {2, 21, 1, 2}, {2, 22, 1, 1}};
+    for (size_t i = 0; i < sizeof cases / sizeof cases[0]; i++) {
+        table_keep(&table);
+        midici_pe_answer answer = table_cancel(&table, cases[i].peer, cases[i].request_id);
+        check(answer.refusal == 0 && answer.value == 0 && answer.count == cases[i].count, "was there one", "cancel");
+        check(cases[i].count == 1 || table_same(&table), "without a match all stays", "cancel");
+        check(table_guarded(&table), "nothing is written before a slice", "cancel");
+        check(table_open_list(&table).count == cases[i].open, "so many lists are open", "cancel");
+    }
+    table_free(&table);
+}
+
+static void test_drop(void)
+{
+    struct table table;
+    make_open(&table);
+    const struct {
+        uint32_t peer;
+        uint64_t count, open;
+    } cases[] = {{3, 0, 4}, {1, 2, 2}, {1, 0, 2}, {0x0FFFFFFF, 0, 2}, {2, 2, 0}};
+    for (size_t i = 0; i < sizeof cases / sizeof cases[0]; i++) {
+        table_keep(&table);
+        midici_pe_answer answer = table_drop_peer(&table, cases[i].peer);
+        check(answer.refusal == 0 && answer.value == 0 && answer.count == cases[i].count, "how many", "drop");
+        check(cases[i].count > 0 || table_same(&table), "without a match all stays", "drop");
+        check(table_guarded(&table), "nothing is written before a slice", "drop");
+        check(table_open_list(&table).count == cases[i].open, "so many lists are open", "drop");
+    }
+    open_one(&table, 3, 1, 0);
+    open_one(&table, 4, 1, 0);
+    check(table_open_list(&table).count == 2, "the records are free for others", "drop");
+    table_free(&table);
+}
+
+/* A poll, and which of the four lists it closes, in order. */
+static void check_poll(struct table *table, uint64_t now_ms, uint64_t count, const uint64_t *peers, const uint64_t *ids)
+{
+    table_keep(table);
+    midici_pe_answer answer = table_poll(table, now_ms);
+    check(answer.refusal == 0 && answer.value == 0 && answer.count == count, "how many are closed", "poll");
+    for (uint64_t i = 0; i < count; i++) {
+        check(lent_words(&table->lent[OUT_PEERS])[i] == peers[i], "whose", "poll");
+        check(lent_words(&table->lent[OUT_REQUEST_IDS])[i] == ids[i], "which", "poll");
+    }
+    check(lent_same_from(&table->lent[OUT_PEERS], 8 * count), "places past the count stay", "poll");
+    check(lent_same_from(&table->lent[OUT_REQUEST_IDS], 8 * count), "places past the count stay", "poll");
+    check(count > 0 || table_same(table), "without a match all stays", "poll");
+    check(table_guarded(table), "nothing is written before a slice", "poll");
+}
+
+static void test_poll(void)
+{
+    struct table table;
+    const uint64_t peers[] = {1, 2, 1, 2}, ids[] = {11, 21, 12, 22};
+    make_open(&table);
+    check_poll(&table, 3999, 0, NULL, NULL);
+    check_poll(&table, 500, 0, NULL, NULL);
+    check_poll(&table, 4001, 2, peers, ids);
+    check_poll(&table, 4001, 0, NULL, NULL);
+    check_poll(&table, UINT64_MAX, 2, peers + 2, ids + 2);
+    open_one(&table, 1, 11, UINT64_MAX);
+    check_poll(&table, UINT64_MAX, 0, NULL, NULL);
+    check_poll(&table, 0, 0, NULL, NULL);
+    table_free(&table);
+    make_open(&table);
+    struct bytes duplicate = chunk_of((struct fields){11, "HD", 2, 1, "abc"});
+    check(table_feed(&table, 1, duplicate.at, duplicate.len, 2000).refusal == 8, "a duplicate is refused", "poll");
+    check_poll(&table, 4999, 3, peers + 1, ids + 1);
+    check_poll(&table, 5000, 1, peers, ids);
+    table_free(&table);
+}
+
+static void test_open_list(void)
+{
+    struct table table;
+    make_open(&table);
+    struct bytes chunk = chunk_of((struct fields){21, "", 3, 2, "x"});
+    check(table_feed(&table, 2, chunk.at, chunk.len, 0).refusal == 8, "another count", "open list");
+    chunk = chunk_of((struct fields){21, "", 0, 3, "x"});
+    check(table_feed(&table, 2, chunk.at, chunk.len, 0).refusal == 0, "a second chunk", "open list");
+    table_keep(&table);
+    midici_pe_answer answer = table_open_list(&table);
+    check(answer.refusal == 0 && answer.value == 0 && answer.count == 4, "how many are open", "open list");
+    const uint64_t *peers = lent_words(&table.lent[OUT_PEERS]), *ids = lent_words(&table.lent[OUT_REQUEST_IDS]),
+                   *held = lent_words(&table.lent[OUT_CHUNKS_HELD]);
+    const uint64_t wanted[4][3] = {{1, 11, 1}, {1, 12, 1}, {2, 21, 2}, {2, 22, 1}};
+    for (int w = 0; w < 4; w++) {
+        int found = 0;
+        for (int i = 0; i < 4; i++)
+            found += peers[i] == wanted[w][0] && ids[i] == wanted[w][1] && held[i] == wanted[w][2];
+        check(found == 1, "each open list stands there once", "open list");
+    }
+    for (int slice = 0; slice < LENT; slice++)
+        check(lent_same_from(&table.lent[slice], slice >= OUT_PEERS ? 8 * 4 : 0), "all else stays", "open list");
+    check(table_guarded(&table), "nothing is written before a slice", "open list");
+    table_free(&table);
+}
+
+static void test_totals(void)
+{
+    struct table table;
+    make_open(&table);
+    const uint64_t rooms = 4 * PEERS * (HEADER_BYTES + TX_BYTES + 8 * RECORDS);
+    table_keep(&table);
+    midici_pe_answer reserved = table_reserved_bytes(&table);
+    check(reserved.refusal == 0 && reserved.value == 0 && reserved.count == rooms, "the rooms", "totals");
+    midici_pe_stats stats = table_memory_stats(&table);
+    check(stats.refusal == 0 && stats.value == 0 && stats.reserved_bytes == rooms, "the rooms again", "totals");
+    check(stats.active_slots == 4 && stats.active_bytes == 4 * (2 + 3 + 8), "what is open", "totals");
+    check(table_same(&table), "nothing is written", "totals");
+    lent_words(&table.lent[NUMBERS])[1 + 2 + 6] = UINT64_MAX;
+    check(table_memory_stats(&table).active_bytes == UINT64_MAX, "the bytes hold at the largest number", "totals");
+    table_free(&table);
+}
+
+/* The clock of ticks holds at the largest number. */
+static void test_ticks(void)
+{
+    struct table table;
+    table_make(&table, PEERS, HEADER_BYTES, TX_BYTES, RECORDS, 0);
+    table_new(&table);
+    const uint64_t *numbers = lent_words(&table.lent[NUMBERS]);
+    open_one(&table, 1, 11, 0);
+    check(numbers[0] == 2 && numbers[1 + 2 + 3] == 2, "the first tick is 2", "ticks");
+    lent_words(&table.lent[NUMBERS])[0] = UINT64_MAX - 1;
+    open_one(&table, 1, 12, 0);
+    check(numbers[0] == UINT64_MAX && numbers[1 + 2 + 9 + 3] == UINT64_MAX, "the largest tick", "ticks");
+    open_one(&table, 1, 13, 0);
+    check(numbers[0] == UINT64_MAX && numbers[1 + 2 + 18 + 3] == UINT64_MAX, "which holds", "ticks");
+    table_free(&table);
+}
+
+/* Seventeen chunks at full size, the last one first: 16 of 4,096 bytes, and chunk 1 with `first` bytes. */
+static void feed_full(struct table *table, uint32_t peer, size_t first, uint8_t refusal)
+{
+    static uint8_t property[4096];
+    for (unsigned n = 17; n >= 1; n--) {
+        struct bytes chunk = {.len = 0};
+        size_t len = n == 1 ? first : 4096;
+        memset(property, (int)n, sizeof property);
+        add_byte(&chunk, 5);
+        add_u14(&chunk, 0);
+        add_u14(&chunk, 17);
+        add_u14(&chunk, n);
+        add_u14(&chunk, (unsigned)len);
+        add_bytes(&chunk, property, len);
+        midici_pe_fed answer = table_feed(table, peer, chunk.at, chunk.len, 0);
+        if (n > 1)
+            check(answer.refusal == 0 && answer.whole == 0, "waiting", "full size");
+        else
+            check(answer.refusal == refusal && answer.whole == (refusal == 0) &&
+                      answer.body_len == (refusal == 0 ? 65536 : 0),
+                  "65,536 bytes and no more", "full size");
+    }
+}
+
+static void test_full_size(void)
+{
+    struct table table;
+    table_make(&table, MIDICI_PE_MAX_PEERS, MIDICI_PE_HEADER_BYTES, MIDICI_PE_TX_BYTES, MIDICI_PE_FRAGMENT_RECORDS, 0);
+    check(table_new(&table).refusal == 0, "the largest table", "full size");
+    for (uint32_t peer = 0; peer < 16; peer++)
+        for (uint8_t id = 0; id < 4; id++)
+            open_one(&table, peer, id, peer);
+    check(table_open_list(&table).count == 64, "64 lists are open", "full size");
+    check(table_poll(&table, 3000).count == 4, "those of the first peer", "full size");
+    check(table_poll(&table, 4000).count == 60, "all others", "full size");
+    feed_full(&table, 77, 0, 0);
+    const uint8_t *body = table.lent[OUT_BODY].at;
+    check(body[0] == 2 && body[4095] == 2 && body[4096] == 3 && body[65535] == 17, "the body", "full size");
+    feed_full(&table, 78, 1, 5);
+    check(table_open_list(&table).count == 0, "65,537 bytes close the list", "full size");
+    check(table_guarded(&table), "nothing is written before a slice", "full size");
+    table_free(&table);
+}
+
+void test_table_calls(void)
+{
+    test_new();
+    test_cancel();
+    test_drop();
+    test_poll();
+    test_open_list();
+    test_totals();
+    test_ticks();
+    test_full_size();
+}
