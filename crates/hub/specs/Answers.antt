@@ -1,5 +1,5 @@
--- What the exports answer: document 01's replies as a struct of numbers. With a refusal the count is 0; else the refusal's
--- number and value are 0.
+-- What the exports answer: document 01's replies as structs of numbers. With a refusal every other field is 0; else the
+-- refusal's number and value are 0.
 -- Assumes nothing.
 use Prim.Native.Nat.{ℕ}
 use mathlib.Core.Bool.{Bool, cond}

@@ -111,6 +111,7 @@ pub fn cancelled(a: Cancelled) -> Answer
     }
 }
 
+// How many slots or bytes there are.
 pub fn number_counted(a: Count) -> Answer
     ensures { λ r. ⌜ r ≡ answerOf (numberTold a) ⌝ }
 {

@@ -1,4 +1,4 @@
-// What the hub's C program calls: numbers and slices of bytes go in, a struct of numbers comes out.
+// What the hub's C program calls: numbers and slices go in, a struct of numbers comes out.
 pub mod answer;
 pub mod chunks;
 pub mod controller;
