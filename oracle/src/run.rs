@@ -40,11 +40,12 @@ pub enum What {
     Poll { now_ms: u64 },
     MemoryStats,
     ReservedBytes,
+    OpenList,
 }
 
 impl What {
-    pub const NAMES: [&'static str; 8] =
-        ["new", "feed", "feed_message", "cancel", "drop_peer", "poll", "memory_stats", "reserved_bytes"];
+    pub const NAMES: [&'static str; 9] =
+        ["new", "feed", "feed_message", "cancel", "drop_peer", "poll", "memory_stats", "reserved_bytes", "open_list"];
 
     pub fn name(&self) -> &'static str {
         Self::NAMES[match self {
@@ -56,6 +57,7 @@ impl What {
             What::Poll { .. } => 5,
             What::MemoryStats => 6,
             What::ReservedBytes => 7,
+            What::OpenList => 8,
         }]
     }
 
@@ -77,6 +79,7 @@ impl What {
                 vec![numbers, slots * FRAGMENT_RECORDS, slots * HEADER_BYTES, slots * TX_BYTES, HEADER_BYTES, TX_BYTES]
             }
             What::Poll { .. } => vec![numbers, slots, slots],
+            What::OpenList => vec![numbers, slots, slots, slots],
             What::ReservedBytes => Vec::new(),
             _ => vec![numbers],
         }
@@ -95,7 +98,7 @@ impl fmt::Display for Call {
             What::Cancel { peer, request_id } => write!(f, " peer {peer:07X} id {request_id}"),
             What::DropPeer { peer } => write!(f, " peer {peer:07X}"),
             What::Poll { now_ms } => write!(f, " at {now_ms}"),
-            What::New | What::MemoryStats | What::ReservedBytes => Ok(()),
+            What::New | What::MemoryStats | What::ReservedBytes | What::OpenList => Ok(()),
         }
     }
 }
@@ -123,4 +126,5 @@ pub struct Written {
     pub body: Vec<u8>,
     pub peers: Vec<u64>,
     pub request_ids: Vec<u64>,
+    pub held: Vec<u64>,
 }

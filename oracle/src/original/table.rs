@@ -3,7 +3,7 @@ use crate::outcome::Refusal;
 use crate::run::{Call, Lent, Told, What, Written};
 use midici_core::muid::Muid;
 use midici_core::pe_msg::PeMessage;
-use midici_pe::reassembler::{ReassembleEvent, Reassembler};
+use midici_pe::reassembler::{probe, ReassembleEvent, Reassembler};
 
 type Fed = Result<Option<ReassembleEvent>, Refusal>;
 
@@ -40,6 +40,7 @@ fn answer(r: &mut Reassembler, what: &What, peer: Muid, written: &mut Written) -
             [stats.reserved_bytes as u64, stats.active_bytes as u64, stats.active_slots as u64]
         }
         What::ReservedBytes => [r.reserved_bytes() as u64, 0, 0],
+        What::OpenList => open_list(r, written),
     })
 }
 
@@ -67,4 +68,18 @@ fn polled(events: Vec<ReassembleEvent>, written: &mut Written) -> [u64; 3] {
         written.request_ids.push((*request_id).into());
     }
     [events.len() as u64, 0, 0]
+}
+
+/// The original has no such call: what its private fields hold, by place, as the port lists it (document 01 leaves the order
+/// free).
+fn open_list(r: &Reassembler, written: &mut Written) -> [u64; 3] {
+    for p in 0..probe::max_peers(r) {
+        let slots = (0..probe::PEER_SLOTS).map(|s| probe::slot(r, p, s));
+        for slot in slots.filter(|slot| slot.is_active()) {
+            written.peers.push(probe::peer(r, p).1.into());
+            written.request_ids.push(slot.request_id().into());
+            written.held.push(slot.records() as u64);
+        }
+    }
+    [written.peers.len() as u64, 0, 0]
 }

@@ -88,10 +88,11 @@ impl Script {
             0..=3 => self.cancel(r),
             4..=5 => What::DropPeer { peer: self.named() },
             6..=13 => What::Poll { now_ms: self.poll_time(r) },
-            14..=17 => What::MemoryStats,
-            18 => What::ReservedBytes,
-            19 => What::New,
-            20..=21 => self.feed_any(),
+            14..=16 => What::MemoryStats,
+            17 => What::ReservedBytes,
+            18 => What::New,
+            19..=20 => self.feed_any(),
+            21..=24 => What::OpenList,
             _ => self.feed(),
         }
     }

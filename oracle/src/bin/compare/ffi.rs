@@ -273,5 +273,19 @@ extern "C" {
         numbers: *const u64,
         numbers_len: usize,
     ) -> StatsAnswer;
+    pub fn midici_pe_open_list(
+        max_peers: usize,
+        header_bytes: usize,
+        tx_bytes: usize,
+        fragment_records: usize,
+        numbers: *const u64,
+        numbers_len: usize,
+        out_peers: *mut u64,
+        out_peers_len: usize,
+        out_request_ids: *mut u64,
+        out_request_ids_len: usize,
+        out_chunks_held: *mut u64,
+        out_chunks_held_len: usize,
+    ) -> Answer;
     pub fn midici_pe_reserved_bytes(max_peers: usize, header_bytes: usize, tx_bytes: usize, fragment_records: usize) -> Answer;
 }

@@ -19,6 +19,7 @@ pub struct Table {
     out_body: Vec<u8>,
     out_peers: Vec<u64>,
     out_request_ids: Vec<u64>,
+    out_chunks_held: Vec<u64>,
     /// What the outputs hold before a call.
     bytes_before: Vec<u8>,
     words_before: Vec<u64>,
@@ -49,6 +50,7 @@ impl Table {
             out_body: bytes_before.clone(),
             out_peers: words_before.clone(),
             out_request_ids: words_before.clone(),
+            out_chunks_held: words_before.clone(),
             bytes_before,
             words_before,
         }
@@ -111,6 +113,7 @@ impl Table {
             What::Feed { peer, raw_chunk, now_ms } => self.feed(&shape, &lengths, Some(*peer), raw_chunk, *now_ms),
             What::FeedMessage { body, now_ms } => self.feed(&shape, &lengths, None, body, *now_ms),
             What::Poll { now_ms } => self.poll(&shape, &lengths, *now_ms),
+            What::OpenList => self.open_list(&shape, &lengths),
             what => self.other(&shape, &lengths, what),
         }
     }
@@ -221,6 +224,29 @@ impl Table {
         })
     }
 
+    fn open_list(&mut self, shape: &Shape, lengths: &[usize]) -> Told {
+        let numbers = &self.numbers[..lengths[0]];
+        let out_peers = &mut self.out_peers[..lengths[1]];
+        let out_request_ids = &mut self.out_request_ids[..lengths[2]];
+        let out_chunks_held = &mut self.out_chunks_held[..lengths[3]];
+        counted(unsafe {
+            ffi::midici_pe_open_list(
+                shape.max_peers,
+                shape.header_bytes,
+                shape.tx_bytes,
+                shape.fragment_records,
+                numbers.as_ptr(),
+                numbers.len(),
+                out_peers.as_mut_ptr(),
+                out_peers.len(),
+                out_request_ids.as_mut_ptr(),
+                out_request_ids.len(),
+                out_chunks_held.as_mut_ptr(),
+                out_chunks_held.len(),
+            )
+        })
+    }
+
     /// A call that is lent the numbers or nothing.
     fn other(&mut self, shape: &Shape, lengths: &[usize], what: &What) -> Told {
         let Shape { max_peers: n, header_bytes: h, tx_bytes: b, fragment_records: r } = *shape;
@@ -249,10 +275,11 @@ impl Table {
                 let header = output("out_header", &mut self.out_header, &written.header, &self.bytes_before)?;
                 Ok(header + output("out_body", &mut self.out_body, &written.body, &self.bytes_before)?)
             }
-            What::Poll { .. } => {
+            What::Poll { .. } | What::OpenList => {
                 let peers = output("out_peers", &mut self.out_peers, &written.peers, &self.words_before)?;
                 let ids = output("out_request_ids", &mut self.out_request_ids, &written.request_ids, &self.words_before)?;
-                Ok(8 * (peers + ids))
+                let held = output("out_chunks_held", &mut self.out_chunks_held, &written.held, &self.words_before)?;
+                Ok(8 * (peers + ids + held))
             }
             _ => Ok(0),
         }
