@@ -18,6 +18,7 @@ help:
 	@echo "make lib       proves and builds the library for C programs, $(LIBRARY)"
 	@echo "make install   installs the library, its header and its pkg-config file (PREFIX=$(PREFIX) DESTDIR=$(DESTDIR))"
 	@echo "make test-c    the C tests: header against source, README's example, every export, plain and under the sanitizers"
+	@echo "make fuzz      calls the exports on memory of any contents (SECONDS=$(SECONDS); needs clang)"
 	@echo "make compare   compares the port with the original (SEED=$(SEED) CASES=$(CASES) for each function, RUNS=$(RUNS) of sixty calls)"
 	@echo "make vectors   writes the list of the original's answers that the program replay plays"
 
@@ -88,4 +89,7 @@ target/c/hub_sanitized: c/hub.c include/midici_pe.h $(LIBRARY)
 	@mkdir -p target/c
 	@$(SANITIZED) c/hub.c $(LIBRARY) -o $@
 
-.PHONY: help test run examples compare vectors lib install test-c tested-c
+fuzz: $(LIBRARY)
+	@c/run-fuzz $(SECONDS)
+
+.PHONY: help test run examples compare vectors lib install test-c tested-c fuzz

@@ -8,6 +8,23 @@
 #include <sys/mman.h>
 #include <unistd.h>
 
+/* Under the address sanitizer what is before a slice may not even be read by instrumented code. */
+#if defined(__has_feature)
+#if __has_feature(address_sanitizer)
+#define WITH_ASAN
+#endif
+#elif defined(__SANITIZE_ADDRESS__)
+#define WITH_ASAN
+#endif
+#ifdef WITH_ASAN
+#include <sanitizer/asan_interface.h>
+#define SHUT(from, len) __asan_poison_memory_region(from, len)
+#define OPEN(from, len) __asan_unpoison_memory_region(from, len)
+#else
+#define SHUT(from, len) ((void)(from), (void)(len))
+#define OPEN(from, len) ((void)(from), (void)(len))
+#endif
+
 static const uint8_t KNOWN = 0xA5;
 
 static size_t page_len(void) { return (size_t)sysconf(_SC_PAGESIZE); }
@@ -36,6 +53,7 @@ void lent_make(struct lent *lent, size_t most)
 void lent_free(struct lent *lent)
 {
     free(lent->kept);
+    OPEN(lent->room, lent->room_len);
     if (munmap(lent->room - page_len(), lent->room_len + 2 * page_len()) != 0)
         give_up("memory of a slice");
 }
@@ -44,7 +62,9 @@ void lent_resize(struct lent *lent, size_t len)
 {
     lent->len = len;
     lent->at = lent->room + lent->room_len - len;
+    OPEN(lent->room, lent->room_len);
     memset(lent->room, KNOWN, lent->room_len - len);
+    SHUT(lent->room, lent->room_len - len);
 }
 
 void lent_null(struct lent *lent)
@@ -72,10 +92,11 @@ bool lent_same_from(const struct lent *lent, size_t from)
 
 bool lent_guarded(const struct lent *lent)
 {
-    for (size_t i = 0; i < lent->room_len - lent->len; i++)
-        if (lent->room[i] != KNOWN)
-            return false;
-    return true;
+    size_t before = lent->room_len - lent->len;
+    OPEN(lent->room, before);
+    bool guarded = before == 0 || (lent->room[0] == KNOWN && memcmp(lent->room, lent->room + 1, before - 1) == 0);
+    SHUT(lent->room, before);
+    return guarded;
 }
 
 uint64_t *lent_words(const struct lent *lent) { return (uint64_t *)(void *)lent->at; }
