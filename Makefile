@@ -6,7 +6,7 @@ PREFIX ?= /usr/local
 LIBRARY = target/staticlib/libhub.a
 C99 = $(CC) -std=c99 -O2 -Wall -Wextra -Wpedantic -Werror -Iinclude
 SANITIZED = $(C99) -g -fsanitize=address,undefined -fno-sanitize-recover=all
-C_TESTS := $(wildcard c/test_*.c) c/check.c c/lent.c
+C_TESTS := $(wildcard c/test_*.c c/model_*.c) c/check.c c/lent.c
 C_HEADERS := $(wildcard c/*.h) include/midici_pe.h
 HUB_CRATES := $(shell sed -n 's/^hub:/hub/p' crates.txt)
 HUB_SOURCES := $(shell find $(HUB_CRATES:%=crates/%) -name '*.rt' -o -name '*.antt')

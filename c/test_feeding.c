@@ -1,6 +1,7 @@
 /* Tests of a table that is fed: what is joined, closed, listed and counted, and the refusals of chunks that reach a list.
  */
 #include "check.h"
+#include "model.h"
 
 #include <string.h>
 
@@ -126,6 +127,15 @@ static void check_step(struct table *table, midici_pe_fed answer, const struct s
     check(table_memory_stats(table).active_slots == step->open, "so many lists are counted", name);
 }
 
+/* What a feed is lent is left as the model leaves its copy. */
+static void check_left(struct table *table, uint32_t peer, struct bytes *chunk, const char *name)
+{
+    struct lent raw = {.at = chunk->at, .len = chunk->len};
+    model_feed(table, peer, &raw, 1000);
+    for (int slice = NUMBERS; slice <= OUT_BODY; slice++)
+        check(lent_same_from(&table->lent[slice], 0), "the table is left as it should be", name);
+}
+
 /* Feeds a case's chunks, bare or in messages. A peer's number that a message cannot carry is fed bare. */
 static void test_feed_case(const struct feed_case *c, bool in_messages)
 {
@@ -140,6 +150,7 @@ static void test_feed_case(const struct feed_case *c, bool in_messages)
                                    ? table_feed_message(&table, message.at, message.len, 1000)
                                    : table_feed(&table, step->peer, chunk.at, chunk.len, 1000);
         check_step(&table, answer, step, c->name);
+        check_left(&table, step->peer, &chunk, c->name);
     }
     table_free(&table);
 }

@@ -1,5 +1,6 @@
 /* Tests of the calls on a table: made, cancelled, dropped, polled, listed and counted; the largest table. */
 #include "check.h"
+#include "model.h"
 
 #include <string.h>
 
@@ -63,6 +64,8 @@ static void test_cancel(void)
         midici_pe_answer answer = table_cancel(&table, cases[i].peer, cases[i].request_id);
         check(answer.refusal == 0 && answer.value == 0 && answer.count == cases[i].count, "was there one", "cancel");
         check(cases[i].count == 1 || table_same(&table), "without a match all stays", "cancel");
+        model_cancel(&table, cases[i].peer, cases[i].request_id);
+        check(table_same(&table), "the table is left as it should be", "cancel");
         check(table_guarded(&table), "nothing is written before a slice", "cancel");
         check(table_open_list(&table).count == cases[i].open, "so many lists are open", "cancel");
     }
@@ -82,6 +85,8 @@ static void test_drop(void)
         midici_pe_answer answer = table_drop_peer(&table, cases[i].peer);
         check(answer.refusal == 0 && answer.value == 0 && answer.count == cases[i].count, "how many", "drop");
         check(cases[i].count > 0 || table_same(&table), "without a match all stays", "drop");
+        model_drop_peer(&table, cases[i].peer);
+        check(table_same(&table), "the table is left as it should be", "drop");
         check(table_guarded(&table), "nothing is written before a slice", "drop");
         check(table_open_list(&table).count == cases[i].open, "so many lists are open", "drop");
     }
@@ -104,6 +109,8 @@ static void check_poll(struct table *table, uint64_t now_ms, uint64_t count, con
     check(lent_same_from(&table->lent[OUT_PEERS], 8 * count), "places past the count stay", "poll");
     check(lent_same_from(&table->lent[OUT_REQUEST_IDS], 8 * count), "places past the count stay", "poll");
     check(count > 0 || table_same(table), "without a match all stays", "poll");
+    model_poll(table, now_ms);
+    check(table_same(table), "the table is left as it should be", "poll");
     check(table_guarded(table), "nothing is written before a slice", "poll");
 }
 
