@@ -1,0 +1,95 @@
+//! What is measured on: lists and their chunks, from a fixed seed.
+use midici_pe::chunker::split;
+use midici_pe::frame::PeChunk;
+
+pub const REQUEST_ID: u8 = 5;
+pub const PEER: u32 = 0x0123_4567;
+const SEED: u64 = 1;
+
+/// SplitMix64.
+pub struct Rng(u64);
+
+impl Rng {
+    pub fn new() -> Rng {
+        Rng(SEED)
+    }
+
+    fn next(&mut self) -> u64 {
+        self.0 = self.0.wrapping_add(0x9E37_79B9_7F4A_7C15);
+        let z = (self.0 ^ self.0 >> 30).wrapping_mul(0xBF58_476D_1CE4_E5B9);
+        let z = (z ^ z >> 27).wrapping_mul(0x94D0_49BB_1331_11EB);
+        z ^ z >> 31
+    }
+
+    pub fn bytes(&mut self, n: usize) -> Vec<u8> {
+        (0..n).map(|_| self.next() as u8).collect()
+    }
+
+    pub fn seven_bit(&mut self, n: usize) -> Vec<u8> {
+        (0..n).map(|_| self.next() as u8 & 0x7F).collect()
+    }
+
+    pub fn shuffle<T>(&mut self, items: &mut [T]) {
+        (1..items.len()).rev().for_each(|i| items.swap(i, self.next() as usize % (i + 1)));
+    }
+}
+
+/// In which order the chunks of a list come.
+#[derive(Clone, Copy, PartialEq, Eq)]
+pub enum Order {
+    InOrder,
+    Shuffled,
+}
+
+impl Order {
+    pub fn name(self) -> &'static str {
+        match self {
+            Order::InOrder => "in order",
+            Order::Shuffled => "shuffled",
+        }
+    }
+
+    /// The numbers from 1 to a count in this order.
+    pub fn numbers(self, count: usize) -> Vec<u16> {
+        let mut numbers: Vec<u16> = (1..=count as u16).collect();
+        if self == Order::Shuffled {
+            Rng::new().shuffle(&mut numbers);
+        }
+        numbers
+    }
+
+    pub fn of(self, chunks: &[Vec<u8>]) -> Vec<Vec<u8>> {
+        self.numbers(chunks.len()).iter().map(|k| chunks[usize::from(*k) - 1].clone()).collect()
+    }
+}
+
+/// A header of 48 bytes and a body, and the limit at which they are cut.
+#[derive(Clone)]
+pub struct List {
+    pub header: Vec<u8>,
+    pub body: Vec<u8>,
+    pub max_sysex: u32,
+}
+
+impl List {
+    pub fn new(body_len: usize, max_sysex: u32) -> List {
+        let mut rng = Rng::new();
+        List { header: rng.seven_bit(48), body: rng.bytes(body_len), max_sysex }
+    }
+
+    pub fn chunks(&self) -> Vec<Vec<u8>> {
+        split(REQUEST_ID, &self.header, &self.body, self.max_sysex).expect("a list that can be cut")
+    }
+}
+
+/// Chunks of one byte each, numbered from 1 to the count.
+pub fn one_byte_chunks(request_id: u8, count: u16) -> Vec<Vec<u8>> {
+    let chunk = |chunk_num: u16| PeChunk {
+        request_id,
+        header: if chunk_num == 1 { b"{}".to_vec() } else { Vec::new() },
+        num_chunks: count,
+        chunk_num,
+        property: vec![chunk_num as u8],
+    };
+    (1..=count).map(|k| chunk(k).to_vec().expect("a chunk that can be written")).collect()
+}
