@@ -20,6 +20,7 @@ help:
 	@echo "make test-c    the C tests: header against source, README's example, every export, plain and under the sanitizers"
 	@echo "make fuzz      calls the exports on memory of any contents (SECONDS=$(SECONDS); needs clang)"
 	@echo "make compare   compares the port with the original (SEED=$(SEED) CASES=$(CASES) for each function, RUNS=$(RUNS) of sixty calls)"
+	@echo "make bench     measures the port beside the original, and writes the tables of docs/BENCHMARKS.md and docs/benchmarks.svg"
 	@echo "make vectors   writes the list of the original's answers that the program replay plays"
 
 test:
@@ -36,6 +37,10 @@ examples:
 compare:
 	@oracle/at-hand
 	@oracle/run compare $(SEED) $(CASES) $(RUNS)
+
+bench:
+	@oracle/at-hand
+	@bench/run
 
 vectors:
 	@oracle/at-hand
@@ -92,4 +97,4 @@ target/c/hub_sanitized: c/hub.c include/midici_pe.h $(LIBRARY)
 fuzz: $(LIBRARY)
 	@c/run-fuzz $(SECONDS)
 
-.PHONY: help test run examples compare vectors lib install test-c tested-c fuzz
+.PHONY: help test run examples compare bench vectors lib install test-c tested-c fuzz

@@ -1,10 +1,17 @@
-//! What is measured on: lists and their chunks, from a fixed seed.
+//! What is measured on, the same bytes for both sides, from a fixed seed.
 use midici_pe::chunker::split;
 use midici_pe::frame::PeChunk;
 
 pub const REQUEST_ID: u8 = 5;
 pub const PEER: u32 = 0x0123_4567;
 const SEED: u64 = 1;
+
+pub type Chunks = &'static [Vec<u8>];
+
+/// Keeps a value to the program's end, so that both sides refer to it.
+pub fn keep<T>(value: T) -> &'static T {
+    Box::leak(Box::new(value))
+}
 
 /// SplitMix64.
 pub struct Rng(u64);
@@ -29,7 +36,7 @@ impl Rng {
         (0..n).map(|_| self.next() as u8 & 0x7F).collect()
     }
 
-    pub fn shuffle<T>(&mut self, items: &mut [T]) {
+    fn shuffle<T>(&mut self, items: &mut [T]) {
         (1..items.len()).rev().for_each(|i| items.swap(i, self.next() as usize % (i + 1)));
     }
 }
@@ -42,6 +49,8 @@ pub enum Order {
 }
 
 impl Order {
+    pub const ALL: [Order; 2] = [Order::InOrder, Order::Shuffled];
+
     pub fn name(self) -> &'static str {
         match self {
             Order::InOrder => "in order",
@@ -58,13 +67,13 @@ impl Order {
         numbers
     }
 
-    pub fn of(self, chunks: &[Vec<u8>]) -> Vec<Vec<u8>> {
-        self.numbers(chunks.len()).iter().map(|k| chunks[usize::from(*k) - 1].clone()).collect()
+    /// The chunks in this order.
+    pub fn of(self, chunks: Vec<Vec<u8>>) -> Chunks {
+        keep(self.numbers(chunks.len()).iter().map(|k| chunks[usize::from(*k) - 1].clone()).collect::<Vec<_>>())
     }
 }
 
 /// A header of 48 bytes and a body, and the limit at which they are cut.
-#[derive(Clone)]
 pub struct List {
     pub header: Vec<u8>,
     pub body: Vec<u8>,
@@ -72,9 +81,18 @@ pub struct List {
 }
 
 impl List {
-    pub fn new(body_len: usize, max_sysex: u32) -> List {
+    /// The four lists.
+    pub fn all() -> [&'static List; 4] {
+        [(1_000, 256), (65_536, 128), (65_536, 256), (65_536, 4_096)].map(|(len, max_sysex)| List::new(len, max_sysex))
+    }
+
+    pub fn new(body_len: usize, max_sysex: u32) -> &'static List {
         let mut rng = Rng::new();
-        List { header: rng.seven_bit(48), body: rng.bytes(body_len), max_sysex }
+        keep(List { header: rng.seven_bit(48), body: rng.bytes(body_len), max_sysex })
+    }
+
+    pub fn name(&self, order: Order) -> String {
+        format!("{} bytes at {}, {}", self.body.len(), self.max_sysex, order.name())
     }
 
     pub fn chunks(&self) -> Vec<Vec<u8>> {
@@ -82,14 +100,16 @@ impl List {
     }
 }
 
-/// Chunks of one byte each, numbered from 1 to the count.
-pub fn one_byte_chunks(request_id: u8, count: u16) -> Vec<Vec<u8>> {
-    let chunk = |chunk_num: u16| PeChunk {
-        request_id,
-        header: if chunk_num == 1 { b"{}".to_vec() } else { Vec::new() },
-        num_chunks: count,
-        chunk_num,
-        property: vec![chunk_num as u8],
-    };
-    (1..=count).map(|k| chunk(k).to_vec().expect("a chunk that can be written")).collect()
+/// The most records that a slot holds.
+pub const RECORDS: usize = 2_048;
+
+/// A list that the cutter would not make: one byte in each chunk, and as many chunks as a slot has records.
+pub fn one_byte_chunks(request_id: u8) -> Vec<Vec<u8>> {
+    (1..=RECORDS as u16).map(|chunk_num| one_byte_chunk(request_id, chunk_num)).collect()
+}
+
+fn one_byte_chunk(request_id: u8, chunk_num: u16) -> Vec<u8> {
+    let header = if chunk_num == 1 { b"{}".to_vec() } else { Vec::new() };
+    let chunk = PeChunk { request_id, header, num_chunks: RECORDS as u16, chunk_num, property: vec![chunk_num as u8] };
+    chunk.to_vec().expect("a chunk that can be written")
 }

@@ -1,5 +1,5 @@
-//! Measures the port beside the original: `bench times` prints each row's times, `bench counts`, below callgrind, counts its
-//! instructions.
+//! Measures the port beside the original. `bench times` prints the times of each row, and `bench counts`, run by callgrind, has
+//! its instructions counted. A second word chooses the rows whose table and name have it in them.
 mod callgrind;
 #[allow(dead_code)]
 #[path = "../../oracle/src/bin/compare/ffi.rs"]
@@ -9,35 +9,66 @@ mod measure;
 mod port;
 mod rows;
 
-use measure::Row;
+use measure::Round;
+use rows::Row;
 
-/// The peers of a table.
-pub const PEERS: usize = 16;
+/// How often all rows are gone through, so that a busy moment of the machine does not hit one row alone.
+const PASSES: usize = 5;
 const SIDES: [&str; 3] = ["port", "rust", "copies"];
 
-fn print_times(row: &mut Row) {
-    let times: Vec<String> = measure::times(row).iter().map(|ns| format!("{ns:.2}")).collect();
-    println!("{}\t{}\t{}", row.group, row.name, times.join("\t"));
+fn name(row: &Row) -> String {
+    format!("{}\t{}", row.table, row.name)
 }
 
-/// Each side once for its caches and tables, and then counted.
-fn count(row: &mut Row) {
+fn each(part: &str, mut visit: impl FnMut(Row)) {
+    rows::each(|row| {
+        if name(&row).replace('\t', " ").contains(part) {
+            visit(row);
+        }
+    });
+}
+
+fn times(part: &str) {
+    let mut measured: Vec<(String, Vec<Round>)> = Vec::new();
+    for _ in 0..PASSES {
+        let mut at = 0;
+        each(part, |mut row| {
+            if at == measured.len() {
+                measured.push((name(&row), Vec::new()));
+            }
+            measured[at].1.extend(measure::rounds(&mut row));
+            at += 1;
+        });
+    }
+    measured.iter().for_each(|(name, rounds)| println!("{name}\t{}", line(rounds)));
+}
+
+/// For each side its median, its quickest turn, and the port's time by its own.
+fn line(rounds: &[Round]) -> String {
+    let sides = (0..rounds[0].len()).map(|side| {
+        let (median, quickest) = (measure::median(rounds, side), measure::quickest(rounds, side));
+        format!("{median:.2}\t{quickest:.2}\t{:.4}", measure::ratio(rounds, side))
+    });
+    sides.collect::<Vec<_>>().join("\t")
+}
+
+/// Each side runs once before it is counted.
+fn count(mut row: Row) {
+    let of = format!("{}\t{}", name(&row), row.operations);
     for (side, name) in row.sides.iter_mut().zip(SIDES) {
-        side.before();
+        side.prepare();
         side.run();
-        side.before();
-        callgrind::counted(&format!("{}\t{}\t{}\t{name}", row.group, row.name, row.ops), || side.run());
+        side.prepare();
+        callgrind::counted(&format!("{of}\t{name}"), || side.run());
     }
 }
 
 fn main() {
-    let mode = std::env::args().nth(1);
-    let part = std::env::args().nth(2).unwrap_or_default();
-    let mut rows = rows::rows();
-    let rows = rows.iter_mut().filter(|row| format!("{} {}", row.group, row.name).contains(&part));
-    match mode.as_deref() {
-        Some("times") => rows.for_each(print_times),
-        Some("counts") => rows.for_each(count),
+    let args: Vec<String> = std::env::args().collect();
+    let part = args.get(2).map_or("", String::as_str);
+    match args.get(1).map(String::as_str) {
+        Some("times") => times(part),
+        Some("counts") => each(part, count),
         _ => panic!("usage: bench times [PART], or bench counts [PART]"),
     }
 }

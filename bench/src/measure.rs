@@ -1,67 +1,66 @@
-//! Times: the sides of a row take turns, and the median of many turns counts.
+//! Times: in each round the sides of a row take turns.
+use crate::rows::{Row, Side};
 use std::time::Instant;
 
-/// One side of a row.
-pub trait Side {
-    /// What is done before each run and not measured.
-    fn before(&mut self) {}
-    fn run(&mut self);
+const ROUNDS: usize = 41;
+/// How long a turn takes at least, unless it is prepared.
+const TURN_NS: f64 = 50_000.0;
+
+/// Each side's nanoseconds for one operation.
+pub type Round = Vec<f64>;
+
+pub fn rounds(row: &mut Row) -> Vec<Round> {
+    let runs = if row.prepared { 1 } else { runs_for_a_turn(row) };
+    let operations = (runs * row.operations) as f64;
+    (0..ROUNDS).map(|first| turns(row, first, runs).iter().map(|ns| ns / operations).collect()).collect()
 }
 
-impl<F: FnMut()> Side for F {
-    fn run(&mut self) {
-        self()
+/// A turn of each side, and another one is first in the next round.
+fn turns(row: &mut Row, first: usize, runs: u64) -> Vec<f64> {
+    let sides = row.sides.len();
+    let mut taken = vec![0.0; sides];
+    for k in 0..sides {
+        let side = (first + k) % sides;
+        taken[side] = turn(&mut *row.sides[side], runs);
     }
+    taken
 }
 
-pub struct Row {
-    pub group: &'static str,
-    pub name: String,
-    /// How many operations one run is made of.
-    pub ops: u64,
-    /// Whether each run needs what comes before it.
-    pub prepared: bool,
-    /// The port, the Rust, and two copies of the body where there is one.
-    pub sides: Vec<Box<dyn Side>>,
-}
-
-const TURNS: usize = 201;
-/// How long a turn takes, about.
-const TURN_NS: u128 = 50_000;
-
-/// The median time of one operation on each side, in nanoseconds.
-pub fn times(row: &mut Row) -> Vec<f64> {
-    let runs = if row.prepared { 1 } else { runs_per_turn(row) };
-    let mut taken: Vec<Vec<u128>> = row.sides.iter().map(|_| Vec::new()).collect();
-    for turn in 0..TURNS {
-        for k in 0..row.sides.len() {
-            let side = (k + turn) % row.sides.len();
-            taken[side].push(turn_ns(&mut *row.sides[side], runs));
-        }
-    }
-    let ops = (runs as u64 * row.ops) as f64;
-    taken.iter_mut().flat_map(|ns| [median(ns) as f64 / ops, ns[0] as f64 / ops]).collect()
-}
-
-fn turn_ns(side: &mut dyn Side, runs: u32) -> u128 {
-    side.before();
+fn turn(side: &mut dyn Side, runs: u64) -> f64 {
+    side.prepare();
     let start = Instant::now();
     for _ in 0..runs {
         side.run();
     }
-    start.elapsed().as_nanos()
+    start.elapsed().as_nanos() as f64
 }
 
-/// So many that the quickest side takes a turn's time.
-fn runs_per_turn(row: &mut Row) -> u32 {
+/// So many that each side takes a turn's time.
+fn runs_for_a_turn(row: &mut Row) -> u64 {
     let mut runs = 1;
-    while row.sides.iter_mut().map(|side| turn_ns(&mut **side, runs)).min().unwrap() < TURN_NS {
+    while row.sides.iter_mut().any(|side| turn(&mut **side, runs) < TURN_NS) {
         runs *= 2;
     }
     runs
 }
 
-fn median(ns: &mut [u128]) -> u128 {
-    ns.sort_unstable();
-    ns[ns.len() / 2]
+/// The median time of a side.
+pub fn median(rounds: &[Round], side: usize) -> f64 {
+    middle(rounds.iter().map(|round| round[side]))
+}
+
+/// The port's time by that of a side: the median of the rounds' ratios.
+pub fn ratio(rounds: &[Round], side: usize) -> f64 {
+    middle(rounds.iter().map(|round| round[0] / round[side]))
+}
+
+/// The quickest turn of a side.
+pub fn quickest(rounds: &[Round], side: usize) -> f64 {
+    rounds.iter().map(|round| round[side]).fold(f64::MAX, f64::min)
+}
+
+fn middle(values: impl Iterator<Item = f64>) -> f64 {
+    let mut values: Vec<f64> = values.collect();
+    values.sort_by(f64::total_cmp);
+    values[values.len() / 2]
 }

@@ -1,13 +1,12 @@
-//! The port's side, through the exports of crates/hub and crates/codec_exports.
+//! The port's side, through the exports of crates/hub.
 use crate::ffi;
-use crate::inputs::{List, REQUEST_ID};
-use crate::PEERS;
+use crate::inputs::{List, RECORDS, REQUEST_ID};
+use crate::rows::PEERS;
 
 const HEADER_BYTES: usize = 4_096;
 const TX_BYTES: usize = 65_536;
-const FRAGMENT_RECORDS: usize = 2_048;
 
-/// A table of full size in memory of its own, and its two outputs, which are never cleared.
+/// A table of full size with the memory that it is lent, and the two outputs. Nothing of it is cleared between lists.
 pub struct Table {
     numbers: Vec<u64>,
     index: Vec<u64>,
@@ -19,33 +18,35 @@ pub struct Table {
 
 impl Table {
     pub fn new() -> Table {
-        let slots = 4 * PEERS;
         let mut table = Table {
             numbers: vec![0; 1 + 38 * PEERS],
-            index: vec![0; slots * FRAGMENT_RECORDS],
-            headers: vec![1; slots * HEADER_BYTES],
-            arenas: vec![1; slots * TX_BYTES],
+            index: vec![0; 4 * PEERS * RECORDS],
+            headers: vec![1; 4 * PEERS * HEADER_BYTES],
+            arenas: vec![1; 4 * PEERS * TX_BYTES],
             out_header: vec![1; HEADER_BYTES],
             out_body: vec![1; TX_BYTES],
         };
-        let made = unsafe {
+        assert_eq!(table.make().refusal, 0, "the port's new");
+        table
+    }
+
+    fn make(&mut self) -> ffi::Answer {
+        unsafe {
             ffi::midici_pe_new(
                 PEERS,
                 HEADER_BYTES,
                 TX_BYTES,
-                FRAGMENT_RECORDS,
-                table.numbers.as_mut_ptr(),
-                table.numbers.len(),
-                table.index.as_mut_ptr(),
-                table.index.len(),
-                table.headers.as_ptr(),
-                table.headers.len(),
-                table.arenas.as_ptr(),
-                table.arenas.len(),
+                RECORDS,
+                self.numbers.as_mut_ptr(),
+                self.numbers.len(),
+                self.index.as_mut_ptr(),
+                self.index.len(),
+                self.headers.as_ptr(),
+                self.headers.len(),
+                self.arenas.as_ptr(),
+                self.arenas.len(),
             )
-        };
-        assert_eq!(made.refusal, 0, "new of the port");
-        table
+        }
     }
 
     pub fn feed(&mut self, peer: u32, raw_chunk: &[u8]) -> ffi::FedAnswer {
@@ -54,7 +55,7 @@ impl Table {
                 PEERS,
                 HEADER_BYTES,
                 TX_BYTES,
-                FRAGMENT_RECORDS,
+                RECORDS,
                 self.numbers.as_mut_ptr(),
                 self.numbers.len(),
                 self.index.as_mut_ptr(),
@@ -77,19 +78,17 @@ impl Table {
 
     pub fn drop_peer(&mut self, peer: u32) {
         let (numbers, len) = (self.numbers.as_mut_ptr(), self.numbers.len());
-        unsafe { ffi::midici_pe_drop_peer(PEERS, HEADER_BYTES, TX_BYTES, FRAGMENT_RECORDS, numbers, len, peer) };
+        unsafe { ffi::midici_pe_drop_peer(PEERS, HEADER_BYTES, TX_BYTES, RECORDS, numbers, len, peer) };
     }
 }
 
 pub fn chunk_count(list: &List) -> usize {
     let List { header, body, max_sysex } = list;
-    let answer = unsafe {
-        ffi::midici_pe_chunk_count(REQUEST_ID, header.as_ptr(), header.len(), body.as_ptr(), body.len(), *max_sysex)
-    };
-    answer.count as usize
+    let (header, header_len, body, body_len) = (header.as_ptr(), header.len(), body.as_ptr(), body.len());
+    unsafe { ffi::midici_pe_chunk_count(REQUEST_ID, header, header_len, body, body_len, *max_sysex) }.count as usize
 }
 
-/// Chunk number chunk_num, written into out: its length.
+/// Writes a chunk of the list into out: its length.
 pub fn split_chunk(list: &List, chunk_num: u16, out: &mut [u8]) -> usize {
     let List { header, body, max_sysex } = list;
     let answer = unsafe {
@@ -106,4 +105,9 @@ pub fn split_chunk(list: &List, chunk_num: u16, out: &mut [u8]) -> usize {
         )
     };
     answer.count as usize
+}
+
+/// Reads an Mcoded7 text into out: how many bytes it has.
+pub fn mcoded7_decode(text: &[u8], out: &mut [u8]) -> usize {
+    unsafe { ffi::codec_mcoded7_decode(text.as_ptr(), text.len(), out.as_mut_ptr(), out.len()) }.count as usize
 }

@@ -1,0 +1,66 @@
+"""What bench/run measured, and the targets."""
+
+import pathlib
+import re
+
+ROOT = pathlib.Path(__file__).resolve().parent.parent
+MEASURED = ROOT / "target/bench"
+SIDES = ["port", "rust", "copies"]
+
+
+class Row:
+    """Of each side: nanoseconds of one operation, the median and the quickest turn; the port's time by it; instructions."""
+
+    def __init__(self, table, name, *numbers):
+        self.table, self.name = table, name
+        numbers = [float(number) for number in numbers]
+        self.median, self.quickest, self.by = (dict(zip(SIDES, numbers[k::3])) for k in range(3))
+        self.count = {}
+
+    def label(self):
+        return re.sub(r"\d{4,}", lambda m: f"{int(m.group()):,}", self.name)
+
+    def ratio(self):
+        return self.by["rust"]
+
+    def quickest_ratio(self):
+        return self.quickest["port"] / self.quickest["rust"]
+
+    def count_ratio(self):
+        return self.count["port"] / self.count["rust"] if self.count else None
+
+    def copies_ratio(self):
+        return self.by.get("copies")
+
+    def target(self):
+        """The most that port / Rust may be."""
+        return 0.6 if "65536 bytes at 128" in self.name else 1.0
+
+    def copies_target(self):
+        """The most that port / two copies may be."""
+        return 1.5 if "65536 bytes at 4096" in self.name else None
+
+    def misses(self):
+        over = self.copies_target() and self.copies_ratio() > self.copies_target()
+        return self.ratio() > self.target() or bool(over)
+
+
+def rows():
+    found = [Row(*line.split("\t")) for line in (MEASURED / "times").read_text().splitlines()]
+    counts = read_counts()
+    for one in found:
+        one.count = counts.get((one.table, one.name), {})
+    return found
+
+
+def read_counts():
+    """Instructions of one operation, for each row and side, from callgrind's dumps."""
+    counts = {}
+    for dump in (MEASURED / "counts").glob("of.*"):
+        text = dump.read_text()
+        of = re.search(r"^desc: Trigger: Client Request: (.*)$", text, re.M)
+        if of:
+            table, name, operations, side = of.group(1).split("\t")
+            total = int(re.search(r"^summary: (\d+)$", text, re.M).group(1))
+            counts.setdefault((table, name), {})[side] = total / int(operations)
+    return counts

@@ -1,0 +1,93 @@
+"""Writes the tables of docs/BENCHMARKS.md, between its two marks, and prints the rows that miss a target."""
+
+import os
+import subprocess
+
+from figures import ROOT, rows
+
+DOCUMENT = ROOT / "docs/BENCHMARKS.md"
+BEGIN = "<!-- written by make bench -->\n"
+END = "<!-- end -->\n"
+TITLES = {
+    "feed": "Feed: one list, from an empty slot until it is whole",
+    "split": "Split: one list, its chunks counted and all of them written",
+    "readers": "Readers: one call",
+    "growth": "Growth: one feed, by the records that its slot holds before",
+}
+
+
+def ns(value):
+    if value is None:
+        return ""
+    if value < 100:
+        return f"{value:.1f} ns"
+    if value < 10_000:
+        return f"{value:,.0f} ns"
+    return f"{value / 1000:,.1f} µs" if value < 100_000 else f"{value / 1000:,.0f} µs"
+
+
+def ratio(value):
+    return "" if value is None else f"{value:.3f}" if value < 0.1 else f"{value:.2f}"
+
+
+def count(value):
+    return "" if value is None else f"{value:,.0f}"
+
+
+def marked(value, target):
+    return "" if value is None else f"**{ratio(value)}**" if target and value > target else ratio(value)
+
+
+def cells(row, copies):
+    own = [row.label(), ns(row.median["port"]), ns(row.median["rust"]), marked(row.ratio(), row.target())]
+    own += [ratio(row.quickest_ratio()), count(row.count.get("port")), count(row.count.get("rust")), ratio(row.count_ratio())]
+    return own + [marked(row.copies_ratio(), row.copies_target())] if copies else own
+
+
+def line(words):
+    return "| " + " | ".join(words) + " |\n"
+
+
+def table(title, found):
+    copies = any("copies" in row.median for row in found)
+    head = ["", "port", "Rust", "port / Rust", "quickest", "instructions, port", "Rust", "port / Rust"]
+    head += ["port / two copies"] if copies else []
+    rule = ["---"] + ["--:"] * (len(head) - 1)
+    return f"### {title}\n\n" + line(head) + line(rule) + "".join(line(cells(row, copies)) for row in found)
+
+
+def first_line(*command):
+    try:
+        return subprocess.run(command, capture_output=True, text=True, check=True).stdout.splitlines()[0]
+    except (OSError, subprocess.CalledProcessError, IndexError):
+        return f"no {command[0]}"
+
+
+def machine():
+    tools = [first_line(name, "--version") for name in ("rt", "rustc", "valgrind")]
+    return f"Measured on {os.cpu_count()} cores, with {', '.join(tools)}.\n"
+
+
+def missed(found):
+    names = [f"- {row.table}, {row.label()}: {ratio(row.ratio())} of the Rust{over_copies(row)}\n" for row in found if row.misses()]
+    return "### Rows that miss a target\n\n" + ("".join(names) or "None.\n")
+
+
+def over_copies(row):
+    return f", {ratio(row.copies_ratio())} of two copies" if row.copies_target() else ""
+
+
+def written(found):
+    parts = [machine()] + [table(title, [row for row in found if row.table == name]) for name, title in TITLES.items()]
+    return "\n".join(parts + [missed(found)])
+
+
+def main():
+    found = rows()
+    before, rest = DOCUMENT.read_text().split(BEGIN)
+    behind = rest.split(END)[1]
+    DOCUMENT.write_text(before + BEGIN + "\n" + written(found) + "\n" + END + behind)
+    print(missed(found).removeprefix("### "), end="")
+
+
+main()
