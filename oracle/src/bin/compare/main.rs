@@ -83,7 +83,7 @@ fn run() -> Result<(), String> {
     println!("{runs} runs of sixty calls, and more with lists of some 2,048 chunks, on tables of 0, 1, 2, 8 and 16 peers");
     let tally = runs::compare(seed, runs)?;
     tally.lines().iter().for_each(|line| println!("{line}"));
-    println!("{} calls, {} bytes of answers, outputs and memory compared, no difference", tally.calls, tally.bytes);
+    println!("{} calls, {} bytes of outputs and memory compared, no difference", tally.calls, tally.bytes);
     Ok(())
 }
 
