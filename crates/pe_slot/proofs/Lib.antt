@@ -1,4 +1,5 @@
 pub mod RecordLaws
+pub mod ScanLaws
 pub mod MetaLaws
 pub mod Turn
 pub mod OrderLaws

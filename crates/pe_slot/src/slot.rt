@@ -566,7 +566,7 @@ pub fn feed_slot(
     ) {
         return Fed::Refused(PeError::DamagedSlot);
     }
-    let pass = scan(index, len as usize, chunk_num as u64);
+    let pass = scan(index, len as usize, chunk_num);
     let held = pass.held;
     if !ends_at(pass.laid, pass.end, end) {
         return Fed::Refused(PeError::DamagedSlot);
