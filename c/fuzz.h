@@ -1,0 +1,47 @@
+/* What a fuzzer's bytes choose: what is lent, what it holds, and the arguments of calls. */
+#ifndef FUZZ_H
+#define FUZZ_H
+
+#include "lent.h"
+
+/* What is lent: a table's slices, and those of the other calls. */
+struct lending {
+    struct table table;
+    bool is_sound; /* the table was made by midici_pe_new, and nobody but calls has written it since */
+    struct lent header, body, out;
+};
+
+/* What is left of the fuzzer's bytes. */
+struct input {
+    const uint8_t *at;
+    size_t left;
+};
+
+/* The next byte, 0 behind the last one. */
+unsigned take(struct input *input);
+
+/* A number of so many bytes. */
+uint64_t take_bits(struct input *input, int bytes);
+
+/* A number: most often a small one. */
+uint64_t take_number(struct input *input);
+
+/* A MUID: most often one of a few. */
+uint32_t take_muid(struct input *input);
+
+/* A shape, and slices for it, filled with known bytes. */
+struct lending *choose_lending(struct input *input);
+
+/* Fills the table's memory with anything. */
+void fill_table(struct input *input, struct table *table);
+
+/* Any bytes. */
+void choose_bytes(struct input *input, struct lent *bytes);
+
+/* A chunk that can mostly be read and mostly goes with others, behind `before` bytes. */
+void choose_chunk(struct input *input, const struct table *table, struct lent *bytes, size_t before);
+
+/* A header, a body and an output for the cutter and the writer. */
+void choose_list(struct input *input, struct lending *lending);
+
+#endif
