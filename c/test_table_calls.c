@@ -174,9 +174,51 @@ static void test_totals(void)
     check(stats.refusal == 0 && stats.value == 0 && stats.reserved_bytes == rooms, "the rooms again", "totals");
     check(stats.active_slots == 4 && stats.active_bytes == 4 * (2 + 3 + 8), "what is open", "totals");
     check(table_same(&table), "nothing is written", "totals");
-    lent_words(&table.lent[NUMBERS])[1 + 2 + 6] = UINT64_MAX;
-    check(table_memory_stats(&table).active_bytes == UINT64_MAX, "the bytes hold at the largest number", "totals");
     table_free(&table);
+}
+
+/* Stored numbers of one open list, taken as they are, and their total, which holds at the largest number. */
+static void test_large_totals(void)
+{
+    const struct {
+        uint64_t header_len, index_len, property_bytes, total;
+    } cases[] = {
+        {3, 2, 5, 24},
+        {0, UINT64_MAX / 8, 0, UINT64_MAX - 7},
+        {0, UINT64_MAX / 8, 7, UINT64_MAX},
+        {8, UINT64_MAX / 8, 0, UINT64_MAX},
+        {0, UINT64_MAX / 8 + 1, 0, UINT64_MAX},
+        {UINT64_MAX, 0, 0, UINT64_MAX},
+        {UINT64_MAX - 1, 0, 1, UINT64_MAX},
+        {UINT64_MAX - 2, 0, 1, UINT64_MAX - 1},
+        {UINT64_MAX, UINT64_MAX, UINT64_MAX, UINT64_MAX},
+    };
+    struct table table;
+    table_make(&table, 1, HEADER_BYTES, TX_BYTES, RECORDS, 0);
+    table_new(&table);
+    open_one(&table, 1, 1, 0);
+    uint64_t *slot = lent_words(&table.lent[NUMBERS]) + 1 + 2;
+    for (size_t i = 0; i < sizeof cases / sizeof cases[0]; i++) {
+        slot[6] = cases[i].header_len;
+        slot[7] = cases[i].index_len;
+        slot[8] = cases[i].property_bytes;
+        check(table_memory_stats(&table).active_bytes == cases[i].total, "the bytes of an open list", "large totals");
+    }
+    table_free(&table);
+}
+
+/* The rooms of tables of other shapes. */
+static void test_reserved_bytes(void)
+{
+    const size_t shapes[][5] = {
+        {0, 4096, 65536, 2048, 0}, {16, 4096, 65536, 2048, 5505024}, {1, 0, 0, 0, 0}, {3, 1, 0, 0, 12}, {3, 0, 1, 0, 12},
+        {3, 0, 0, 1, 96},
+    };
+    for (size_t i = 0; i < sizeof shapes / sizeof shapes[0]; i++) {
+        const size_t *shape = shapes[i];
+        midici_pe_answer answer = midici_pe_reserved_bytes(shape[0], shape[1], shape[2], shape[3]);
+        check(answer.refusal == 0 && answer.count == shape[4], "the rooms", "reserved bytes");
+    }
 }
 
 /* The clock of ticks holds at the largest number. */
@@ -248,6 +290,8 @@ void test_table_calls(void)
     test_poll();
     test_open_list();
     test_totals();
+    test_large_totals();
+    test_reserved_bytes();
     test_ticks();
     test_full_size();
 }
