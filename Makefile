@@ -18,6 +18,7 @@ help:
 	@echo "make lib       proves and builds the library for C programs, $(LIBRARY)"
 	@echo "make install   installs the library, its header and its pkg-config file (PREFIX=$(PREFIX) DESTDIR=$(DESTDIR))"
 	@echo "make test-c    the C tests: header against source, README's example, every export, plain and under the sanitizers"
+	@echo "make edits     tries the wrong answers that the gate leaves out for its time (edits/)"
 	@echo "make fuzz      calls the exports on memory of any contents (SECONDS=$(SECONDS); needs clang)"
 	@echo "make compare   compares the port with the original (SEED=$(SEED) CASES=$(CASES) for each function, RUNS=$(RUNS) of sixty calls)"
 	@echo "make bench     measures the port beside the original, and writes the tables of docs/BENCHMARKS.md and docs/benchmarks.svg"
@@ -25,6 +26,9 @@ help:
 
 test:
 	@.ci/gate
+
+edits:
+	@.ci/edits
 
 run: target/c/hub
 	@target/c/hub
@@ -97,4 +101,4 @@ target/c/hub_sanitized: c/hub.c include/midici_pe.h $(LIBRARY)
 fuzz: $(LIBRARY)
 	@c/run-fuzz $(SECONDS)
 
-.PHONY: help test run examples compare bench vectors lib install test-c tested-c fuzz
+.PHONY: help test edits run examples compare bench vectors lib install test-c tested-c fuzz
