@@ -93,7 +93,8 @@ pub record Room (n peer request-id : ℕ) (b : Model) : Type 0 where
   pub not-open : find peer request-id b ≡ none
   pub fewer : openOf peer b < 4
 
--- The calls meanwhile: none cancels it, none drops its peer, none polls 3,000 or more past its last chunk.
+-- The calls from the first chunk on, whose time is `last` from then on: none cancels it, none drops its peer, none polls 3,000 or more past its
+-- last chunk.
 abbrev pub Spared : ℕ → ℕ → ℕ → List Act → Type 0
 Spared peer request-id last [] = Unit {0}
 Spared peer request-id last (arrive q c now-ms ∷ acts) = Spared peer request-id (cond (eqb peer q && eqb request-id (c .request-id)) now-ms last) acts
@@ -107,7 +108,7 @@ actsOf n [] = []
 actsOf n (c ∷ calls) = actOf n c ∷ actsOf n calls
 
 -- A list that is cut, its body of at most 65,536 bytes. Its first chunk arrives and finds room; from then on each chunk arrives once, bare or in a
--- message, in any order and by any call, and no other under that peer and request id; no call robs it.
+-- message, in any order and by any call, and no other under that peer and request id; and no call closes it.
 pub record Delivery (n : ℕ) (b : Model) (peer request-id : ℕ) (header body : List ℕ) (limit : ℕ) (first : Call) (rest : List Call) : Type 0 where
   pub chunks : List (List ℕ)
   pub cut : CutInto request-id header body limit chunks
@@ -121,7 +122,7 @@ pub record Delivery (n : ℕ) (b : Model) (peer request-id : ℕ) (header body :
 pub record Demand3 (n : ℕ) (t : Table) : Type 0 where
   -- every answer is the model's;
   pub answers : (calls : List Call) (told : List Answer) → Run n (made n t) calls told → AllRight n [] calls told
-  -- no peer ever has more than four open, which are those that the model has;
+  -- no peer ever has more than four slots open;
   pub four : (calls : List Call) (peer : ℕ) → tally (λ (r : Shown). eqb peer (r .peer)) (openSlots (fullSize n) (tableFrom n (made n t) calls .numbers)) ≤ 4
   -- and a list whose chunks arrive is handed out with the last of them.
   pub delivery : (before : List Call) (peer request-id : ℕ) (header body : List ℕ) (limit : ℕ) (first : Call) (rest : List Call) (told : List Answer)
