@@ -11,6 +11,7 @@ use midici_pe::{mcoded7, wire};
 use std::hint::black_box;
 
 type Inputs = &'static [Vec<u8>];
+type FromPort<A> = unsafe extern "C" fn(*const u8, usize) -> A;
 
 /// How many inputs a reader has.
 const INPUTS: usize = 64;
@@ -39,60 +40,76 @@ fn message(rng: &mut Rng, sub_id2: u8, data: &[u8]) -> Vec<u8> {
     [&[0x7E, 0x7F, 0x0D, sub_id2, 2], &rng.seven_bit(8)[..], data].concat()
 }
 
-fn reader<A: 'static, B: 'static>(
+/// Each side gives the fields that it read, and all of them are added up, as a caller would take them from the answer.
+fn reader<const FIELDS: usize>(
     name: &str,
     inputs: Inputs,
-    port: unsafe extern "C" fn(*const u8, usize) -> A,
-    rust: fn(&'static [u8]) -> B,
-    same: fn(A, B) -> bool,
+    port: impl Fn(&'static [u8]) -> [u64; FIELDS] + 'static,
+    rust: impl Fn(&'static [u8]) -> [u64; FIELDS] + 'static,
 ) -> Row {
-    let (port, rust) = black_box((port, rust));
     for input in inputs {
-        assert!(same(unsafe { port(input.as_ptr(), input.len()) }, rust(input)), "{name}: {input:02X?}");
+        assert_eq!(port(input), rust(input), "{name}: {input:02X?}");
     }
     let by_port = move || {
-        for input in inputs {
-            black_box(unsafe { port(input.as_ptr(), input.len()) });
-        }
+        black_box(inputs.iter().map(|input| port(input).iter().sum::<u64>()).sum::<u64>());
     };
     let by_rust = move || {
-        for input in inputs {
-            black_box(rust(input));
-        }
+        black_box(inputs.iter().map(|input| rust(input).iter().sum::<u64>()).sum::<u64>());
     };
     Row { operations: INPUTS as u64, ..Row::new("readers", name.to_string(), by_port, by_rust) }
 }
 
 fn chunk(name: &str, inputs: Inputs) -> Row {
-    reader(name, inputs, ffi::codec_decode_fields, PeChunkRef::decode, |port, rust| {
-        rust.is_ok_and(|chunk| {
-            (port.request_id, port.num_chunks, port.chunk_num) == (chunk.request_id, chunk.num_chunks, chunk.chunk_num)
-                && (port.header_len, port.property_len) == (chunk.header.len() as u64, chunk.property.len() as u64)
-        })
+    let decode: FromPort<ffi::ChunkAnswer> = black_box(ffi::codec_decode_fields);
+    let rust: fn(&'static [u8]) -> Result<PeChunkRef<'static>, _> = black_box(PeChunkRef::decode);
+    let by_port = move |input: &'static [u8]| {
+        let chunk = unsafe { decode(input.as_ptr(), input.len()) };
+        let (header, property) = (chunk.header_len, chunk.property_len);
+        [chunk.request_id as u64, header, chunk.num_chunks as u64, chunk.chunk_num as u64, property]
+    };
+    reader(name, inputs, by_port, move |input| {
+        let chunk = rust(input).expect("a good chunk");
+        let (header, property) = (chunk.header.len() as u64, chunk.property.len() as u64);
+        [chunk.request_id as u64, header, chunk.num_chunks as u64, chunk.chunk_num as u64, property]
     })
 }
 
 fn field(inputs: Inputs) -> Row {
-    reader("field of 14 bits", inputs, ffi::codec_read_u14_le7, wire::read_u14_le7, |port, rust| rust == Ok(port.count as u16))
+    let read: FromPort<ffi::Answer> = black_box(ffi::codec_read_u14_le7);
+    let rust: fn(&'static [u8]) -> Result<u16, _> = black_box(wire::read_u14_le7);
+    let by_port = move |input: &'static [u8]| [unsafe { read(input.as_ptr(), input.len()) }.count];
+    reader("field of 14 bits", inputs, by_port, move |input| [rust(input).expect("a good field") as u64])
 }
 
 fn header(inputs: Inputs) -> Row {
-    reader("CI header", inputs, ffi::codec_header_decode, CiHeader::decode, |port, rust| {
-        rust.is_ok_and(|(header, _)| same_header(&port.header, &header))
-    })
+    let decode: FromPort<ffi::HeaderAnswer> = black_box(ffi::codec_header_decode);
+    let rust: fn(&'static [u8]) -> Result<(CiHeader, &'static [u8]), _> = black_box(CiHeader::decode);
+    let by_port = move |input: &'static [u8]| port_header(&unsafe { decode(input.as_ptr(), input.len()) }.header);
+    reader("CI header", inputs, by_port, move |input| rust_header(&rust(input).expect("a good header").0))
 }
 
 fn capabilities(inputs: Inputs) -> Row {
-    reader("capability message", inputs, ffi::codec_caps_decode, PeCapabilities::decode, |port, rust| {
-        rust.is_ok_and(|caps| {
-            same_header(&port.caps.header, &caps.header) && port.caps.simultaneous_requests == caps.simultaneous_requests
-        })
+    let decode: FromPort<ffi::CapsAnswer> = black_box(ffi::codec_caps_decode);
+    let rust: fn(&'static [u8]) -> Result<PeCapabilities, _> = black_box(PeCapabilities::decode);
+    let by_port = move |input: &'static [u8]| {
+        let caps = unsafe { decode(input.as_ptr(), input.len()) }.caps;
+        let [device, kind, version, source, dest] = port_header(&caps.header);
+        [device, kind, version, source, dest, caps.simultaneous_requests as u64]
+    };
+    reader("capability message", inputs, by_port, move |input| {
+        let caps = rust(input).expect("a good message");
+        let [device, kind, version, source, dest] = rust_header(&caps.header);
+        [device, kind, version, source, dest, caps.simultaneous_requests as u64]
     })
 }
 
-fn same_header(port: &ffi::HeaderFields, rust: &CiHeader) -> bool {
-    (port.device_id, port.sub_id2, port.version) == (rust.device_id, rust.sub_id2, rust.version)
-        && (port.source, port.dest) == (rust.source.to_u32(), rust.dest.to_u32())
+fn port_header(header: &ffi::HeaderFields) -> [u64; 5] {
+    [header.device_id as u64, header.sub_id2 as u64, header.version as u64, header.source as u64, header.dest as u64]
+}
+
+fn rust_header(header: &CiHeader) -> [u64; 5] {
+    let (source, dest) = (header.source.to_u32() as u64, header.dest.to_u32() as u64);
+    [header.device_id as u64, header.sub_id2 as u64, header.version as u64, source, dest]
 }
 
 /// The Rust gives a new list, the port writes into a buffer.
