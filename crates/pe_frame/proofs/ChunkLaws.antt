@@ -1,44 +1,52 @@
 -- The laws of reading and writing a chunk.
 -- Assumes nothing.
-use Prim.Native.Nat.{ℕ, _+_, _-_, _<_, _≤_}
+use Prim.Native.Nat.{ℕ, _+_, _<_, _≤_}
 use mathlib.Core.Bool.{Bool, true, false, _||_}
 use mathlib.Core.List.{List, [], _∷_, _++_, append-assoc}
 use mathlib.Core.Path.{_≡_, refl, sym, ap, _∙_}
 use native.Mathlib.Omega.{arith}
 use borrow.Author.Tests.{le-leb, lt-leb, leb-true}
 use lib.Dec.{leb, eqb}
-use lib.ListN.{length, getD, take, drop, length-append}
+use lib.ListN.{length, getD, drop, length-append}
 use Rattle.seven_bit.specs.Parts.{part, put, putFit}
 use Rattle.seven_bit.specs.Reply.{Reply, granted, refused, _else_then_, andThen}
-use Rattle.seven_bit.specs.SevenBit.{isSevenBit, bytesOf}
-use Rattle.seven_bit.proofs.PartLaws.{rest, put-put, fit-yes, length-put}
+use Rattle.seven_bit.specs.SevenBit.{isSevenBit, numberOf, bytesOf}
+use Rattle.seven_bit.proofs.PartLaws.{put-put, fit-yes, length-put}
 use Rattle.seven_bit.proofs.SevenBitLaws.{bytes-length}
 use Rattle.seven_bit.proofs.ReplyLaws.{asked}
-use Rattle.pe_wire.specs.declared.wire.U14.{U14}
-use Rattle.pe_wire.specs.Wire.{readU14, u14Told}
+use Rattle.pe_wire.specs.Wire.{readU14}
 use Rattle.pe_frame.specs.Chunk.{Chunk, Fields, readFields}
 use Rattle.pe_frame.specs.Write.{askChunk, chunkLen, chunkBytes, writeChunk}
+use Rattle.pe_frame.proofs.FieldLaws.{three-fields}
 
--- the questions behind the header
-unfoldable pub readCounts : List ℕ → ℕ → Reply Fields
-readCounts s nh =
-    andThen (readU14 (drop (3 + nh) s)) (λ count.
-    andThen (readU14 (drop (5 + nh) s)) (λ number.
-    andThen (readU14 (drop (7 + nh) s)) (λ nd.
+-- the questions behind the fields
+unfoldable pub readEnd : List ℕ → ℕ → ℕ → ℕ → ℕ → Reply Fields
+readEnd s nh count number nd =
     leb (9 + nh + nd) (length s) else 2 then
     leb (length s) (9 + nh + nd) else 1 then
     (eqb number 1 || eqb nh 0) else 8 then
-    granted (record { request-id = getD s 0 0; header-len = nh; num-chunks = count; chunk-num = number; property-at = 9 + nh; property-len = nd }))))
+    granted (record { request-id = getD s 0 0; header-len = nh; num-chunks = count; chunk-num = number; property-at = 9 + nh; property-len = nd })
+
+-- those behind the header, where the bytes of all fields are asked at once
+abbrev pub readCounts : List ℕ → ℕ → Reply Fields
+readCounts s nh =
+    isSevenBit (part (3 + nh) 6 s) else 1 then
+    readEnd s nh (numberOf (part (3 + nh) 2 s)) (numberOf (part (5 + nh) 2 s)) (numberOf (part (7 + nh) 2 s))
 
 -- are put where those before had a yes
 pub past-header : (s : List ℕ) (nh : ℕ) → 9 + nh ≤ length s → getD s 0 0 ≤ 127 → readU14 (drop 1 s) ≡ granted nh → isSevenBit (part 3 nh s) ≡ true →
     readFields s ≡ readCounts s nh
-unfolding readFields readCounts
-past-header s nh l i h b = rw (le-leb 9 (length s) (omega arith), le-leb _ _ i, h, le-leb _ _ l, b)
+unfolding readFields readEnd
+past-header s nh l i h b =
+    let e₅ : 5 + nh ≡ 3 + nh + 2 = omega arith in
+    let e₇ : 7 + nh ≡ 3 + nh + 4 = omega arith in
+    rw (le-leb 9 (length s) (omega arith), le-leb _ _ i, h, le-leb _ _ l, b, e₅, e₇)
+    (three-fields s (3 + nh) (readEnd s nh) (omega arith))
 
--- the field that a call found from a place on, `&s[at..]`
-pub told-at : (s : List ℕ) (at : ℕ) (r u : U14) → u14Told r ≡ readU14 (take (length s - at) (drop at s)) → r ≡ u → readU14 (drop at s) ≡ u14Told u
-told-at s at r u e g = sym (ap readU14 (rest at s)) ∙ sym e ∙ ap u14Told g
+-- and the last of them where the fields' bytes had a yes
+pub past-fields : (s : List ℕ) (nh count number nd : ℕ) → isSevenBit (part (3 + nh) 6 s) ≡ true →
+    count ≡ numberOf (part (3 + nh) 2 s) → number ≡ numberOf (part (5 + nh) 2 s) → nd ≡ numberOf (part (7 + nh) 2 s) → readCounts s nh ≡ readEnd s nh count number nd
+past-fields s nh count number nd t e₃ e₅ e₇ = rw (t, e₃, e₅, e₇)
 
 -- a chunk that may be written
 pub record InRange (c : Chunk) : Type 0 where

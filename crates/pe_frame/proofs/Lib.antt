@@ -1,3 +1,4 @@
+pub mod FieldLaws
 pub mod ChunkLaws
 pub mod MessageLaws
 pub mod RoundTrip

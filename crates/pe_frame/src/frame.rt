@@ -1,9 +1,7 @@
 // A chunk: request id, header length (14 bits), header, chunk count (14), chunk number (14), property length (14), property.
 use pe_wire::error::PeError;
 use pe_wire::wire::Encoded;
-use pe_wire::wire::U14;
 use pe_wire::wire::U14_MAX;
-use pe_wire::wire::read_u14_le7;
 use pe_wire::wire::write_u14_le7;
 ghost use mathlib.Core.Bool.{true};
 ghost use mathlib.Core.Path.{_≡_};
@@ -11,7 +9,7 @@ ghost use Prim.Native.Nat.{_+_, _≤_};
 ghost use lib.ListN.{length, getD, drop};
 ghost use Rattle.seven_bit.specs.Parts.{part, put};
 ghost use Rattle.seven_bit.specs.Reply.{granted, outcome, writing};
-ghost use Rattle.seven_bit.specs.SevenBit.{isSevenBit, bytesOf};
+ghost use Rattle.seven_bit.specs.SevenBit.{isSevenBit, numberOf, bytesOf};
 ghost use Rattle.pe_wire.specs.Wire.{readU14, encodedTold};
 ghost use Rattle.pe_frame.specs.Chunk.{Chunk, readFields, chunkTold};
 ghost use Rattle.pe_frame.specs.Write.{askChunk, chunkLen, chunkBytes, writeChunk};
@@ -36,26 +34,41 @@ pub enum ChunkRead {
     Refused(PeError),
 }
 
+// The number in the two bytes from at on.
+fn u14_at(data: &[u8], at: usize) -> u16
+    requires { ⌜ at + 2 ≤ length (now «data») ⌝ }
+    ensures { λ r. ⌜ r ≡ numberOf (part at 2 (now («data» .entry))) ⌝ }
+{
+    data[at] as u16 + data[at + 1] as u16 * 128
+}
+
+// Are the two bytes from at on up to 7F?
+fn low_two(data: &[u8], at: usize) -> bool
+    requires { ⌜ at + 2 ≤ length (now «data») ⌝ }
+    ensures { λ r. ⌜ r ≡ isSevenBit (part at 2 (now («data» .entry))) ⌝ }
+{
+    (data[at] | data[at + 1]) <= 0x7F
+}
+
+// Are the six bytes from at on up to 7F? One test of all keeps the reader small enough to be built into its callers.
+fn low_six(data: &[u8], at: usize) -> bool
+    requires { ⌜ at + 6 ≤ length (now «data») ⌝ }
+    ensures { λ r. ⌜ r ≡ isSevenBit (part at 6 (now («data» .entry))) ⌝ }
+{
+    (data[at] | data[at + 1] | data[at + 2] | data[at + 3] | data[at + 4] | data[at + 5]) <= 0x7F
+}
+
 // Count, number and property, behind a header of nh bytes that was found good.
 fn decode_counts(data: &[u8], nh: usize) -> ChunkRead
     requires { ⌜ (9 + nh ≤ length (now «data»)) × (getD (now «data») 0 0 ≤ 127) × (readU14 (drop 1 (now «data»)) ≡ granted nh) × (isSevenBit (part 3 nh (now «data»)) ≡ true) ⌝ }
     ensures { λ r. ⌜ chunkTold r ≡ readFields (now («data» .entry)) ⌝ }
 {
-    let count_at = 3 + nh;
-    let num_chunks = match read_u14_le7(&data[count_at..]) {
-        U14::Value(v) => v,
-        U14::Refused(e) => return ChunkRead::Refused(e),
-    };
-    let number_at = 5 + nh;
-    let chunk_num = match read_u14_le7(&data[number_at..]) {
-        U14::Value(v) => v,
-        U14::Refused(e) => return ChunkRead::Refused(e),
-    };
-    let len_at = 7 + nh;
-    let nd = match read_u14_le7(&data[len_at..]) {
-        U14::Value(v) => v as usize,
-        U14::Refused(e) => return ChunkRead::Refused(e),
-    };
+    if !low_six(data, 3 + nh) {
+        return ChunkRead::Refused(PeError::BadField);
+    }
+    let num_chunks = u14_at(data, 3 + nh);
+    let chunk_num = u14_at(data, 5 + nh);
+    let nd = u14_at(data, 7 + nh) as usize;
     let property_at = PE_FRAMING_LEN + nh;
     if data.len() < property_at + nd {
         return ChunkRead::Refused(PeError::Truncated);
@@ -88,10 +101,10 @@ pub fn decode_fields(data: &[u8]) -> ChunkRead
     if data[0] > REQUEST_ID_MAX {
         return ChunkRead::Refused(PeError::BadField);
     }
-    let nh = match read_u14_le7(&data[1..]) {
-        U14::Value(v) => v as usize,
-        U14::Refused(e) => return ChunkRead::Refused(e),
-    };
+    if !low_two(data, 1) {
+        return ChunkRead::Refused(PeError::BadField);
+    }
+    let nh = u14_at(data, 1) as usize;
     if data.len() < PE_FRAMING_LEN + nh {
         return ChunkRead::Refused(PeError::Truncated);
     }
