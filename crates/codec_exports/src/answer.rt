@@ -98,12 +98,6 @@ pub struct GeneratedAnswer {
     pub number: u32,
 }
 
-#[repr(C)]
-pub struct AllocatedAnswer {
-    pub request_id: u8,
-    pub next: u8,
-}
-
 const NO_HEADER: HeaderFields = HeaderFields {
     device_id: 0,
     sub_id2: 0,

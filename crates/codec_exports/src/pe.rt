@@ -1,5 +1,4 @@
 // The exports of pe_wire, pe_mcoded7, pe_frame, pe_chunker and pe_controller; those that hub has are not among them.
-use crate::answer::AllocatedAnswer;
 use crate::answer::ChunkAnswer;
 use crate::answer::capacity;
 use crate::answer::chunk_read;
@@ -12,7 +11,7 @@ ghost use lib.ListN.{length};
 ghost use Rattle.seven_bit.specs.Reply.{andThen, writing};
 ghost use Rattle.pe_wire.specs.Wire.{readU14, writeU14};
 ghost use Rattle.pe_mcoded7.specs.Mcoded7.{readMcoded7, writeMcoded7};
-ghost use Rattle.pe_controller.specs.Controller.{stepped, negotiated};
+ghost use Rattle.pe_controller.specs.Controller.{negotiated};
 ghost use Rattle.pe_frame.specs.Chunk.{readFields, chunkOf};
 ghost use Rattle.pe_frame.specs.Write.{writeChunk};
 ghost use Rattle.pe_chunker.specs.Cut.{clamped, budget, askFirst, laterCapacity};
@@ -54,19 +53,6 @@ pub extern "C" fn codec_first_request_id() -> u8
 {
     let counter = RequestCounter::new();
     counter.next
-}
-
-// The id, and the counter after it.
-#[no_mangle]
-pub extern "C" fn codec_alloc_out_request_id(counter: u8) -> AllocatedAnswer
-    ensures { λ r. ⌜ r ≡ record { «request_id» = counter; next = stepped counter } ⌝ }
-{
-    let counter = RequestCounter { next: counter };
-    let allocated = counter.alloc_out_request_id();
-    AllocatedAnswer {
-        request_id: allocated.request_id,
-        next: allocated.counter.next,
-    }
 }
 
 #[no_mangle]

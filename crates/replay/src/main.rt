@@ -370,9 +370,9 @@ fn chunk_count(s: &[u8]) -> Answer {
 }
 
 fn alloc_out_request_id(s: &[u8]) {
-    let answer = codec_exports::pe::codec_alloc_out_request_id(u8_at(s, 0));
-    print_byte(answer.request_id);
-    print_byte(answer.next);
+    let allocated = hub::controller::midici_pe_alloc_out_request_id(u8_at(s, 0));
+    print_byte(allocated.request_id);
+    print_byte(allocated.counter);
 }
 
 // The functions that write nothing, but for the message and the chunk.

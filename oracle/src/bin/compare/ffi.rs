@@ -92,9 +92,9 @@ pub struct GeneratedAnswer {
 }
 
 #[repr(C)]
-pub struct AllocatedAnswer {
+pub struct RequestId {
     pub request_id: u8,
-    pub next: u8,
+    pub counter: u8,
 }
 
 extern "C" {
@@ -124,7 +124,6 @@ extern "C" {
     pub fn codec_mcoded7_decode(input: *const u8, input_len: usize, out: *mut u8, out_len: usize) -> Answer;
     pub fn codec_mcoded7_encode(input: *const u8, input_len: usize, out: *mut u8, out_len: usize) -> Answer;
     pub fn codec_first_request_id() -> u8;
-    pub fn codec_alloc_out_request_id(counter: u8) -> AllocatedAnswer;
     pub fn codec_negotiated_requests(ours: u8, theirs: u8) -> u8;
     pub fn codec_decode_fields(bytes: *const u8, bytes_len: usize) -> ChunkAnswer;
     pub fn codec_encode_chunk(
@@ -143,6 +142,7 @@ extern "C" {
     pub fn codec_pe_payload_budget(max_sysex: u32) -> u64;
     pub fn codec_first_chunk_property_capacity(max_sysex: u32, header_len: usize) -> Answer;
     pub fn codec_later_chunk_property_capacity(max_sysex: u32) -> u64;
+    pub fn midici_pe_alloc_out_request_id(counter: u8) -> RequestId;
     pub fn midici_pe_chunk_count(
         request_id: u8,
         header: *const u8,

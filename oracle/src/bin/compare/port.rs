@@ -128,8 +128,8 @@ fn message_encode(input: &[u8], out: &mut [u8]) -> Reply {
 }
 
 fn alloc_out_request_id(counter: u8) -> Vec<u64> {
-    let allocated = unsafe { ffi::codec_alloc_out_request_id(counter) };
-    vec![allocated.request_id.into(), allocated.next.into()]
+    let allocated = unsafe { ffi::midici_pe_alloc_out_request_id(counter) };
+    vec![allocated.request_id.into(), allocated.counter.into()]
 }
 
 /// Header and property are shown as the output.
