@@ -1,7 +1,9 @@
 //! The original's side of the comparison: the functions that are compared, their inputs as bytes, runs of calls on a table, and the
 //! original's answers.
 pub mod case;
+pub mod damage;
 pub mod exhaustive;
+pub mod export;
 pub mod op;
 pub mod original;
 pub mod outcome;

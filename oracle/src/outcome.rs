@@ -46,6 +46,7 @@ impl Outcome {
     }
 }
 
+/// Refusals by their numbers.
 impl fmt::Display for Answer {
     fn fmt(&self, f: &mut fmt::Formatter) -> fmt::Result {
         match self {
@@ -54,7 +55,7 @@ impl fmt::Display for Answer {
             Answer::Whole => write!(f, "whole"),
             Answer::No => write!(f, "no"),
             Answer::Yes => write!(f, "yes"),
-            Answer::Refused(number) => write!(f, "refusal {number}"),
+            Answer::Refused(number) => write!(f, "{number}"),
         }
     }
 }

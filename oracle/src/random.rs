@@ -1,5 +1,6 @@
 //! Random cases around the boundaries, from a seed, and random runs.
 mod chunks;
+mod damage;
 mod lists;
 pub mod runs;
 

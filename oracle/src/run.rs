@@ -1,4 +1,6 @@
 //! A run: a table of full size, and calls on it.
+use crate::damage::Damage;
+use crate::export::{export, Export};
 use std::fmt;
 
 /// Full size.
@@ -24,10 +26,12 @@ pub enum Lent {
     Short(usize),
 }
 
+/// A call, and how the slot that it reaches is damaged before, where it is.
 #[derive(Clone)]
 pub struct Call {
     pub lent: Lent,
     pub what: What,
+    pub damage: Vec<Damage>,
 }
 
 #[derive(Clone)]
@@ -44,11 +48,21 @@ pub enum What {
 }
 
 impl What {
-    pub const NAMES: [&'static str; 9] =
-        ["new", "feed", "feed_message", "cancel", "drop_peer", "poll", "memory_stats", "reserved_bytes", "open_list"];
+    /// With what document 01 asks of each. The source of a message is read from bytes of 28 bits, so it is not asked 28.
+    pub const EXPORTS: [Export; 9] = [
+        export("midici_pe_new", &[30]),
+        export("midici_pe_feed", &[30, 28, 2, 1, 8, 7, 6, 31, 4, 5]),
+        export("midici_pe_feed_message", &[30, 21, 22, 23, 26, 24, 2, 1, 8, 7, 6, 31, 4, 5]),
+        export("midici_pe_cancel", &[30, 28]),
+        export("midici_pe_drop_peer", &[30, 28]),
+        export("midici_pe_poll", &[30]),
+        export("midici_pe_memory_stats", &[30]),
+        export("midici_pe_reserved_bytes", &[30]),
+        export("midici_pe_open_list", &[30]),
+    ];
 
-    pub fn name(&self) -> &'static str {
-        Self::NAMES[match self {
+    pub fn export(&self) -> Export {
+        Self::EXPORTS[match self {
             What::New => 0,
             What::Feed { .. } => 1,
             What::FeedMessage { .. } => 2,
@@ -88,10 +102,11 @@ impl What {
 
 impl fmt::Display for Call {
     fn fmt(&self, f: &mut fmt::Formatter) -> fmt::Result {
-        write!(f, "{}", self.what.name())?;
+        write!(f, "{}", self.what.export().name)?;
         if self.lent != Lent::Right {
             write!(f, " lent {:?}", self.lent)?;
         }
+        self.damage.iter().try_for_each(|Damage { at, bits }| write!(f, " damaged at {at:?} by {bits:X}"))?;
         match &self.what {
             What::Feed { peer, raw_chunk, now_ms } => write!(f, " peer {peer:07X} at {now_ms}: {}", hex(raw_chunk)),
             What::FeedMessage { body, now_ms } => write!(f, " at {now_ms}: {}", hex(body)),

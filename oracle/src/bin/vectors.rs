@@ -17,7 +17,9 @@ const OF_EACH: usize = 6;
 const TRIES: usize = 20_000;
 
 /// The refusals of the functions that are compared, but for 5: it takes a body of 1.7 million bytes.
-const REFUSALS: [u8; 15] = [1, 2, 3, 4, 8, 9, 21, 22, 23, 24, 25, 26, 27, 28, 29];
+fn refusals() -> BTreeSet<u8> {
+    Op::ALL.iter().flat_map(|(_, export)| export.refusals).copied().filter(|number| *number != 5).collect()
+}
 
 fn answer(case: &Case) -> Outcome {
     original::answer(case, case.lent(|_| FILL))
@@ -79,10 +81,10 @@ fn record(case: &Case) -> Vec<u8> {
 
 fn main() -> std::io::Result<()> {
     let dir = std::env::args().nth(1).expect("usage: vectors DIR");
-    let cases: Vec<Case> = examples().into_iter().chain(Op::ALL.into_iter().flat_map(sample)).collect();
+    let cases: Vec<Case> = examples().into_iter().chain(Op::ALL.into_iter().flat_map(|(op, _)| sample(op))).collect();
     let answers: Vec<Outcome> = cases.iter().map(answer).collect();
-    let refusals: BTreeSet<u8> = answers.iter().filter_map(|answer| answer.reply.as_ref().err()).map(|r| r.number).collect();
-    assert_eq!(refusals, BTreeSet::from(REFUSALS), "every refusal is in the list");
+    let refused: BTreeSet<u8> = answers.iter().filter_map(|answer| answer.reply.as_ref().err()).map(|r| r.number).collect();
+    assert_eq!(refused, refusals(), "every refusal is in the list");
     std::fs::write(format!("{dir}/stdin"), cases.iter().flat_map(record).collect::<Vec<u8>>())?;
     std::fs::write(format!("{dir}/stdout"), answers.iter().map(|answer| format!("{answer}\n")).collect::<String>())
 }

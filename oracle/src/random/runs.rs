@@ -1,6 +1,9 @@
 //! Random runs: a table, and the calls on it, one after the other.
+use super::damage::damage;
 use super::lists::{self, Sizes};
 use super::{Rng, KINDS};
+use crate::damage::Damage;
+use crate::original::table::reached;
 use crate::run::{Call, Lent, Start, What};
 use midici_core::header::CiHeader;
 use midici_core::muid::Muid;
@@ -9,6 +12,8 @@ use midici_pe::reassembler::{probe, Reassembler};
 
 /// How many calls a run has, besides those that feed a list of some 2,048 chunks.
 const CALLS: usize = 60;
+/// Once in so many calls the slot that a chunk reaches is damaged first.
+const DAMAGED_IN: usize = 16;
 const PEERS: [usize; 16] = [0, 1, 1, 1, 1, 1, 2, 2, 2, 2, 2, 8, 8, 8, 16, 16];
 const EDGE_PEERS: [u32; 5] = [0x0FFF_FFFF, 0, 1, 0x0FFF_FFFE, 0x0FFF_FF00];
 const REQUEST_IDS: [u8; 8] = [0x05, 0x00, 0x7F, 0x01, 0x02, 0x40, 0x7E, 0x03];
@@ -74,7 +79,17 @@ impl Script {
         self.left = self.left.checked_sub(1)?;
         self.step_time();
         let what = self.what(r);
-        Some(Call { lent: self.lent(&what), what })
+        let call = Call { lent: self.lent(&what), what, damage: Vec::new() };
+        Some(Call { damage: self.damage(r, &call), ..call })
+    }
+
+    /// What is done to the slot that a call reaches; mostly nothing.
+    fn damage(&mut self, r: &Reassembler, call: &Call) -> Vec<Damage> {
+        if !self.rng.once_in(DAMAGED_IN) {
+            return Vec::new();
+        }
+        let Some(slot) = reached(r, call) else { return Vec::new() };
+        damage(&mut self.rng, probe::slot(r, slot / probe::PEER_SLOTS, slot % probe::PEER_SLOTS))
     }
 
     /// Is this one of the calls that feed the list of some 2,048 chunks? Nothing is wrong with them.

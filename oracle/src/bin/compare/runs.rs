@@ -1,13 +1,14 @@
 //! Runs of calls on a table, each put to the port and to the original, with all that both hold compared after every call.
 use crate::state;
+use crate::summary::Summary;
 use crate::table::{Table, MAX_SLOTS};
 use midici_pe::reassembler::{probe, probe::Rooms, Reassembler};
+use oracle::damage::is_sound;
 use oracle::original;
 use oracle::outcome::Answer;
 use oracle::random::runs::Script;
 use oracle::random::Rng;
-use oracle::run::{Call, Start, Told, What, HEADER_BYTES, TX_BYTES};
-use std::collections::BTreeMap;
+use oracle::run::{Call, Start, Told, What, Written, HEADER_BYTES, TX_BYTES};
 
 /// One run in so many has all rooms compared after every call; the others when they end.
 const CLOSELY: u64 = 64;
@@ -27,22 +28,15 @@ struct Pair<'a> {
     closely: bool,
 }
 
-#[derive(Default)]
-pub struct Tally {
-    pub calls: u64,
-    pub bytes: u64,
-    answers: BTreeMap<(&'static str, Answer), u64>,
-}
-
 impl Sides {
     fn new() -> Sides {
-        let bytes = |n: usize, step: usize| (0..n).map(|at| (at * step >> 3) as u8).collect::<Vec<u8>>();
+        let bytes = |n: usize, step: usize| (0..n).map(|at| ((at * step) >> 3) as u8).collect::<Vec<u8>>();
         let (headers, arenas) = (bytes(MAX_SLOTS * HEADER_BYTES, 13), bytes(MAX_SLOTS * TX_BYTES, 29));
         Sides { table: Table::new(&headers, &arenas), rooms: Rooms::new(&headers, &arenas) }
     }
 
     /// Makes a table on both sides. After the call the clock is set, where the run starts with another.
-    fn make(&mut self, start: Start, garbage: u64, closely: bool, tally: &mut Tally) -> Result<Pair<'_>, String> {
+    fn make(&mut self, start: Start, garbage: u64, closely: bool, summary: &mut Summary) -> Result<Pair<'_>, String> {
         let mut original = Reassembler::new(start.max_peers);
         self.rooms.lend(&mut original);
         if let Some(clock) = start.clock {
@@ -52,16 +46,19 @@ impl Sides {
         if told != (Told { refusal: 0, value: 0, numbers: [0; 3] }) {
             return Err(format!("new answers {told:?}"));
         }
-        tally.count(&What::New, told);
+        summary.count(What::New.export(), answer(&What::New, told));
         let pair = Pair { sides: self, original, garbage, closely };
-        tally.bytes += pair.state()? + state::compare_rooms(&pair.sides.table, &pair.original)?;
+        summary.bytes += pair.state()? + state::compare_rooms(&pair.sides.table, &pair.original)?;
         Ok(pair)
     }
 }
 
 impl Pair<'_> {
-    /// Puts a call to both sides.
-    fn call(&mut self, call: &Call, tally: &mut Tally) -> Result<(), String> {
+    /// Puts a call to both sides; before that to the port alone with a damaged slot, where the call says so.
+    fn call(&mut self, call: &Call, summary: &mut Summary) -> Result<(), String> {
+        if !call.damage.is_empty() {
+            self.call_damaged(call, summary).map_err(|difference| format!("with the damage, {difference}"))?;
+        }
         let (expected, written) = original::table::call(&mut self.original, call);
         if matches!(call.what, What::New) && expected.refusal == 0 {
             self.renew();
@@ -70,11 +67,32 @@ impl Pair<'_> {
         if expected != found {
             return Err(format!("the original answers {expected:?}, the port {found:?}"));
         }
-        tally.count(&call.what, found);
-        tally.bytes += self.sides.table.outputs(&call.what, &written)? + self.state()?;
+        summary.count(call.what.export(), answer(&call.what, found));
+        summary.bytes += self.sides.table.outputs(&call.what, &written)? + self.state()?;
         if self.closely {
-            tally.bytes += state::compare_rooms(&self.sides.table, &self.original)?;
+            summary.bytes += state::compare_rooms(&self.sides.table, &self.original)?;
         }
+        Ok(())
+    }
+
+    /// Puts a call to the port with the slot damaged that it reaches: it refuses with 31 and leaves all lent memory as it is. A
+    /// slot that is sound nevertheless is not tried.
+    fn call_damaged(&mut self, call: &Call, summary: &mut Summary) -> Result<(), String> {
+        let Some(slot) = original::table::reached(&self.original, call) else { return Ok(()) };
+        let table = &mut self.sides.table;
+        table.damage(slot, &call.damage);
+        if is_sound(table.slot_words(slot), table.slot_records(slot)) {
+            table.damage(slot, &call.damage);
+            return Ok(());
+        }
+        let found = table.call(call);
+        if found != (Told { refusal: 31, value: 0, numbers: [0; 3] }) {
+            return Err(format!("the port answers {found:?}"));
+        }
+        table.damage(slot, &call.damage);
+        summary.count(call.what.export(), Answer::Refused(31));
+        summary.bytes += table.outputs(&call.what, &Written::default())? + self.state()?;
+        summary.bytes += state::compare_rooms(&self.sides.table, &self.original)?;
         Ok(())
     }
 
@@ -114,18 +132,18 @@ struct Played {
     calls: Vec<Call>,
 }
 
-fn play(sides: &mut Sides, seed: u64, run: u64, tally: &mut Tally) -> Result<(), (String, Played)> {
+fn play(sides: &mut Sides, seed: u64, run: u64, summary: &mut Summary) -> Result<(), (String, Played)> {
     let garbage = seed.rotate_left(17) ^ run << 8;
     let mut script = Script::new(Rng::new(seed ^ 0x7AB1_E000_0000_0000 ^ run << 20));
     let start = script.start();
     let mut calls = Vec::new();
     let mut all = || {
-        let mut pair = sides.make(start, garbage, run % CLOSELY == 0, tally)?;
+        let mut pair = sides.make(start, garbage, run.is_multiple_of(CLOSELY), summary)?;
         while let Some(call) = script.next(&pair.original) {
             calls.push(call);
-            pair.call(&calls[calls.len() - 1], tally)?;
+            pair.call(&calls[calls.len() - 1], summary)?;
         }
-        tally.bytes += pair.end()?;
+        summary.bytes += pair.end()?;
         Ok(())
     };
     all().map_err(|difference| (difference, Played { start, calls }))
@@ -133,9 +151,9 @@ fn play(sides: &mut Sides, seed: u64, run: u64, tally: &mut Tally) -> Result<(),
 
 /// How these calls differ on fresh memory, if they do.
 fn difference(start: Start, calls: &[Call]) -> Option<String> {
-    let (mut sides, mut tally) = (Sides::new(), Tally::default());
-    match sides.make(start, u64::MAX, true, &mut tally) {
-        Ok(mut pair) => calls.iter().find_map(|call| pair.call(call, &mut tally).err()),
+    let (mut sides, mut summary) = (Sides::new(), Summary::default());
+    match sides.make(start, u64::MAX, true, &mut summary) {
+        Ok(mut pair) => calls.iter().find_map(|call| pair.call(call, &mut summary).err()),
         Err(difference) => Some(difference),
     }
 }
@@ -157,33 +175,15 @@ fn shortened(mut found: String, mut played: Played) -> (String, Played) {
 }
 
 /// All runs. A difference is told with the fewest calls that show it.
-pub fn compare(seed: u64, runs: u64) -> Result<Tally, String> {
+pub fn compare(seed: u64, runs: u64, summary: &mut Summary) -> Result<(), String> {
     let mut sides = Sides::new();
-    let mut tally = Tally::default();
     for run in 0..runs {
-        play(&mut sides, seed, run, &mut tally).map_err(|(difference, played)| {
+        play(&mut sides, seed, run, summary).map_err(|(difference, played)| {
             let (difference, Played { start, calls }) = shortened(difference, played);
             let shown = &calls[calls.len().saturating_sub(LONGEST_SHORTENED)..];
             let lines: Vec<String> = shown.iter().map(|call| format!("\n  {call}")).collect();
             format!("run {run}, {} calls: {difference}\n  {start:?}{}", calls.len(), lines.concat())
         })?;
     }
-    Ok(tally)
-}
-
-impl Tally {
-    fn count(&mut self, what: &What, told: Told) {
-        self.calls += 1;
-        *self.answers.entry((what.name(), answer(what, told))).or_default() += 1;
-    }
-
-    /// How often each call got each answer.
-    pub fn lines(&self) -> Vec<String> {
-        let line = |name: &'static str| {
-            let of_name = || self.answers.iter().filter(move |((call, _), _)| *call == name);
-            let answers: Vec<String> = of_name().map(|((_, answer), n)| format!("{answer}: {n}")).collect();
-            format!("{name:20} {:>9}   {}", of_name().map(|(_, n)| n).sum::<u64>(), answers.join(", "))
-        };
-        What::NAMES.map(line).to_vec()
-    }
+    Ok(())
 }

@@ -16,12 +16,12 @@ pub fn compare(table: &Table, r: &Reassembler, garbage: u64) -> Result<u64, Stri
         same_at("muid", p, words[1], muid.into())?;
         for s in 0..probe::PEER_SLOTS {
             let slot = probe::slot(r, p, s);
-            let nine = &words[2 + 9 * s..11 + 9 * s];
+            let nine = table.slot_words(probe::PEER_SLOTS * p + s);
             if nine != slot.words() {
                 return Err(format!("slot {s} of record {p} has {nine:?}, the original's has {:?}", slot.words()));
             }
             if slot.is_active() {
-                bytes += in_use(table, 4 * p + s, slot)?;
+                bytes += in_use(table, probe::PEER_SLOTS * p + s, slot)?;
             }
         }
     }
@@ -53,7 +53,7 @@ fn packed((chunk_num, len, offset): (u16, u16, u32)) -> u64 {
 /// What an open slot has stored.
 fn in_use(table: &Table, slot: usize, original: Slot) -> Result<u64, String> {
     let (header, arena, records) = (original.header(), original.arena(), original.records());
-    let index = &table.index[slot * FRAGMENT_RECORDS..][..records];
+    let index = &table.slot_records(slot)[..records];
     if table.headers[slot * HEADER_BYTES..][..header.len()] != *header {
         return Err(format!("the header in room {slot} is not the original's"));
     }
@@ -73,8 +73,7 @@ pub fn compare_rooms(table: &Table, r: &Reassembler) -> Result<u64, String> {
         if table.headers[slot * HEADER_BYTES..][..HEADER_BYTES] != *original.header_room() {
             return Err(format!("header room {slot} is not kept"));
         }
-        let index = &table.index[slot * FRAGMENT_RECORDS..][..FRAGMENT_RECORDS];
-        if !index.iter().copied().eq(original.index_room().map(packed)) {
+        if !table.slot_records(slot).iter().copied().eq(original.index_room().map(packed)) {
             return Err(format!("the records' room {slot} is not kept"));
         }
         if table.arenas[slot * TX_BYTES..][..TX_BYTES] != *original.arena_room() {

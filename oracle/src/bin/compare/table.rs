@@ -1,5 +1,6 @@
 //! The port's side of a run: the memory that a table is lent, and its calls, through the exports of crates/hub.
 use crate::ffi;
+use oracle::damage::{Damage, Place};
 use oracle::run::{Call, Lent, Start, Told, What, Written, FRAGMENT_RECORDS, HEADER_BYTES, TX_BYTES};
 
 /// The most peers and slots that a table has.
@@ -65,6 +66,29 @@ impl Table {
         4 * self.start.max_peers
     }
 
+    /// Where the nine words of a slot begin.
+    fn words_at(slot: usize) -> usize {
+        3 + 38 * (slot / 4) + 9 * (slot % 4)
+    }
+
+    pub fn slot_words(&self, slot: usize) -> &[u64] {
+        &self.numbers[Self::words_at(slot)..][..9]
+    }
+
+    pub fn slot_records(&self, slot: usize) -> &[u64] {
+        &self.index[slot * FRAGMENT_RECORDS..][..FRAGMENT_RECORDS]
+    }
+
+    /// Damages a slot; and undoes it, done again.
+    pub fn damage(&mut self, slot: usize, damage: &[Damage]) {
+        for Damage { at, bits } in damage {
+            match at {
+                Place::Word(k) => self.numbers[Self::words_at(slot) + k] ^= bits,
+                Place::Record(k) => self.index[slot * FRAGMENT_RECORDS + k] ^= bits,
+            }
+        }
+    }
+
     /// Is what lies behind the largest table's rooms as it was?
     pub fn is_kept_behind(&self) -> bool {
         let headers = &self.headers[MAX_SLOTS * HEADER_BYTES..];
@@ -78,7 +102,7 @@ impl Table {
         self.start = start;
         self.numbers.fill(garbage);
         self.index[..MAX_SLOTS * FRAGMENT_RECORDS].iter_mut().step_by(641).for_each(|word| *word = garbage);
-        let told = self.call(&Call { lent: Lent::Right, what: What::New });
+        let told = self.call(&Call { lent: Lent::Right, what: What::New, damage: Vec::new() });
         if let Some(clock) = start.clock {
             self.numbers[0] = clock;
         }
