@@ -68,7 +68,8 @@ pub enum Op {
 }
 
 impl Op {
-    /// Each function and the port's export of it, with what document 01 asks of it.
+    /// Each function and the port's export of it, with what document 01 asks of it; 1 of Mcoded7 is the Rust's answer
+    /// (docs/DIFFERENCES.md).
     pub const ALL: [(Op, Export); 32] = [
         (Op::ReadU14Le7, export("codec_read_u14_le7", &[2, 1])),
         (Op::WriteU14Le7, export("codec_write_u14_le7", &[3, 1])),
