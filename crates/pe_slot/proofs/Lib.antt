@@ -1,5 +1,6 @@
 pub mod RecordLaws
 pub mod ScanLaws
+pub mod EvenLaws
 pub mod MetaLaws
 pub mod Turn
 pub mod OrderLaws

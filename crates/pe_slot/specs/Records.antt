@@ -1,7 +1,7 @@
 -- What the private passes over a slot's records say.
 -- Assumes nothing.
-use Prim.Native.Nat.{ℕ, _+_, _≤_}
-use mathlib.Core.Bool.{Bool, true, false, cond}
+use Prim.Native.Nat.{ℕ, _+_, _*_, _%_, _≤_}
+use mathlib.Core.Bool.{Bool, true, false, cond, _&&_}
 use mathlib.Core.List.{List, [], _∷_, _++_}
 use mathlib.Core.Option.{Option, none, some}
 use mathlib.Core.Path.{_≡_}
@@ -9,7 +9,7 @@ use lib.Dec.{eqb}
 use lib.ListN.{length, drop}
 use Rattle.pe_slot.specs.declared.records.Joined.{Joined}
 use Rattle.pe_slot.specs.declared.records.Pass.{Pass}
-use Rattle.pe_slot.specs.Memory.{metaNumber, endsAt}
+use Rattle.pe_slot.specs.Memory.{metaNumber, metaLen, metaOffset, endsAt}
 use Rattle.pe_slot.specs.Slot.{Piece, allHeld, bodyOf}
 
 -- Is a chunk number among the records?
@@ -33,6 +33,22 @@ isPlace (some i) = true
 pub record Scanned (r : Pass) (records : List ℕ) (n : ℕ) : Type 0 where
   pub ends : cond (r .laid) (some (r .end)) none ≡ endsAt 0 records
   pub held : r .held ≡ holds n records
+
+-- Is each record the word before it and a step? Words wrap.
+unfoldable pub isStepped : ℕ → ℕ → List ℕ → Bool
+isStepped step x [] = true
+isStepped step x (y ∷ ys) = eqb y ((x + step) % 18446744073709551616) && isStepped step y ys
+
+-- Do the records lie end to end from 0, with the numbers 1, 2 and so on, and one length from the second on? Asked of two and more.
+unfoldable pub isEven : List ℕ → Bool
+isEven [] = false
+isEven (x ∷ []) = false
+isEven (x ∷ y ∷ ys) =
+    eqb (metaOffset x) 0
+    && eqb (metaNumber x) 1
+    && eqb (metaOffset y) (metaLen x)
+    && eqb (metaNumber y) 2
+    && isStepped (metaLen y * 4294967296 + 1) y ys
 
 -- What joining asks: the records end within the arena, and the output has room for all of them.
 pub record Laid (records arena out : List ℕ) (n : ℕ) : Type 0 where
