@@ -34,7 +34,15 @@ pub record Scanned (r : Pass) (records : List ℕ) (n : ℕ) : Type 0 where
   pub ends : cond (r .laid) (some (r .end)) none ≡ endsAt 0 records
   pub held : r .held ≡ holds n records
 
--- Is each record the word before it and a step? Words wrap.
+-- What the record of the next chunk adds to the word of a record, where both chunks have one length.
+abbrev pub stepOf : ℕ → ℕ
+stepOf x = metaLen x * 4294967296 + 1
+
+-- The word that n such records on lead to. Words wrap.
+abbrev pub steps : ℕ → ℕ → ℕ
+steps n x = (x + n * stepOf x) % 18446744073709551616
+
+-- Is each record the word before it and a step?
 unfoldable pub isStepped : ℕ → ℕ → List ℕ → Bool
 isStepped step x [] = true
 isStepped step x (y ∷ ys) = eqb y ((x + step) % 18446744073709551616) && isStepped step y ys
@@ -48,7 +56,7 @@ isEven (x ∷ y ∷ ys) =
     && eqb (metaNumber x) 1
     && eqb (metaOffset y) (metaLen x)
     && eqb (metaNumber y) 2
-    && isStepped (metaLen y * 4294967296 + 1) y ys
+    && isStepped (stepOf y) y ys
 
 -- What joining asks: the records end within the arena, and the output has room for all of them.
 pub record Laid (records arena out : List ℕ) (n : ℕ) : Type 0 where
