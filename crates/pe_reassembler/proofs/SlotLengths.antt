@@ -4,24 +4,21 @@
 use Prim.Native.Nat.{ℕ, _+_, _*_, _<_, _≤_}
 use mathlib.Core.Bool.{Bool, true, false, cond}
 use mathlib.Core.List.{List}
-use mathlib.Core.Path.{_≡_, refl, sym, _∙_, subst}
+use mathlib.Core.Path.{_≡_, refl, sym, _∙_}
 use native.Mathlib.Omega.{arith}
-use borrow.Author.Tests.{leb-true, eq-eqb}
+use borrow.Author.Tests.{eq-eqb}
 use lib.Dec.{leb, eqb}
-use lib.ListN.{length, take, length-set}
+use lib.ListN.{length, length-set}
 use Rattle.seven_bit.specs.Reply.{Reply, refused}
 use Rattle.seven_bit.proofs.PartLaws.{length-part, length-splice}
-use Rattle.pe_wire.specs.declared.error.PeError.{PeError}
 use Rattle.pe_frame.specs.Chunk.{Chunk}
 use Rattle.pe_slot.specs.declared.slot.TxSlot.{TxSlot}
-use Rattle.pe_slot.specs.Slot.{Slot, Verdict, judge}
+use Rattle.pe_slot.specs.Slot.{Verdict, judge}
 use Rattle.pe_slot.specs.Memory.{slotOf, wordsOf, packed, contents, isSound}
-use Rattle.pe_slot.specs.Records.{holds}
 use Rattle.pe_slot.specs.Feed.{Told, After, after, touched, grown, closed, placed, isShaped, feedSlot}
-use Rattle.pe_slot.specs.Steps.{judgedOf}
-use Rattle.pe_slot.proofs.FeedLaws.{length-kept}
+use Rattle.pe_slot.proofs.FeedLaws.{newIndex, newArena, length-kept}
 use Rattle.pe_slot.proofs.FeedTheorems.{Sound, sound-told, opened}
-use Rattle.pe_slot.proofs.JudgeLaws.{verdictOf, judge-is, header-fits, piece-fits}
+use Rattle.pe_slot.proofs.JudgeLaws.{Fitting, judge-fitting}
 use Rattle.pe_reassembler.specs.declared.shape.Shape.{Shape}
 use Rattle.pe_reassembler.specs.Feed.{Memory, wordsPart, roomPart}
 use Rattle.pe_reassembler.specs.Table.{hasRooms, slotAt, roomAt}
@@ -44,31 +41,27 @@ abbrev pub Headed : TxSlot → Type 0
 Headed t = t .«header_set» ≡ 0 → t .«header_len» ≡ 0
 
 module _ (t : TxSlot) (index header arena : List ℕ) (c : Chunk) (out-header out-body : List ℕ) where
-  placed-as : (error : PeError) (stores takes closes : Bool) (next : Slot) (fits : stores ≡ true → length (c .header) ≤ length header)
-      (p : Bool) → (p ≡ true → t .«property_bytes» + length (c .property) ≤ length arena)
-      → SameLengths index header arena (placed t index header arena c (verdictOf p error stores takes closes next) out-header out-body)
+  placed-as : (v : Verdict) → Fitting t index header arena c v → SameLengths index header arena (placed t index header arena c v out-header out-body)
   unfolding placed
-  placed-as error stores takes closes next fits true room =
+  placed-as v f =
       record {
         nine = refl;
-        records = length-set index (t .«index_len») (packed (c .chunk-num) (length (c .property)) (t .«property_bytes»));
-        header-bytes = length-kept stores header (c .header) fits;
-        tx-bytes = length-splice (t .«property_bytes») (length (c .property)) arena (c .property) (room refl) refl;
+        records = index-kept (v .adds);
+        header-bytes = length-kept t index header arena c (v .stores) (f .fits);
+        tx-bytes = arena-kept (v .adds) (f .room);
       }
-  placed-as error stores takes closes next fits false room =
-      record { nine = refl; records = refl; header-bytes = length-kept stores header (c .header) fits; tx-bytes = refl }
+    where
+      index-kept : (b : Bool) → length (newIndex t index header arena c b) ≡ length index
+      index-kept true = length-set index (t .«index_len») (packed (c .chunk-num) (length (c .property)) (t .«property_bytes»))
+      index-kept false = refl
+
+      arena-kept : (b : Bool) → (b ≡ true → t .«property_bytes» + length (c .property) ≤ length arena) → length (newArena t index header arena c b) ≡ length arena
+      arena-kept true room = length-splice (t .«property_bytes») (length (c .property)) arena (c .property) (room refl) refl
+      arena-kept false room = refl
 
   placed-lengths : Sound (length header) (length arena) (length index) t index
       → SameLengths index header arena (placed t index header arena c (judge (length header) (length arena) (length index) (contents t index header arena) c) out-header out-body)
-  placed-lengths s =
-      let holding : Bool = holds (c .chunk-num) (take (t .«index_len») index) in
-      let j = judgedOf t header c holding (length index) (length arena) in
-      subst (λ (v : Verdict). SameLengths index header arena (placed t index header arena c v out-header out-body))
-      (sym (judge-is t index header arena c (s .held) (s .ends) (s .body)))
-      (placed-as (j .error) (j .stores) (j .takes) (j .closes) _
-      (λ (e : j .stores ≡ true). leb-true _ _ (header-fits t header c holding (length index) (length arena) e))
-      (j .passed)
-      (λ (e : j .passed ≡ true). leb-true _ _ (piece-fits t header c holding (length index) (length arena) e .room)))
+  placed-lengths s = placed-as (judge (length header) (length arena) (length index) (contents t index header arena) c) (judge-fitting t index header arena c (s .held) (s .ends) (s .body))
 
   -- an open slot stays open, or it closes and is blank
   placed-blank : eqb (t .active) 0 ≡ false → (v : Verdict) → Blank (slotOf (placed t index header arena c v out-header out-body .words))

@@ -15,7 +15,7 @@ use Rattle.pe_frame.specs.Chunk.{Chunk}
 use Rattle.pe_slot.specs.declared.records.Pass.{Pass}
 use Rattle.pe_slot.specs.declared.slot.TxSlot.{TxSlot}
 use Rattle.pe_slot.specs.Slot.{judge}
-use Rattle.pe_slot.specs.Memory.{slotOf, contents, endsAt, isEnd, isSound}
+use Rattle.pe_slot.specs.Memory.{slotOf, wordsOf, contents, endsAt, isEnd, isSound}
 use Rattle.pe_slot.specs.Records.{Scanned}
 use Rattle.pe_slot.specs.Feed.{After, after, touched, placed, isShaped, feedSlot}
 use Rattle.pe_slot.specs.Steps.{isBounded, Ready}
@@ -110,23 +110,23 @@ module _ (words index header arena : List ℕ) (c : Chunk) (now-ms tick : ℕ) (
   unfolding feedSlot
   fed-unshaped s = rw s
 
-  module _ (s : isShaped words index header arena out-header out-body ≡ true) {t : TxSlot} (e : t ≡ slotOf words) where
-    pub fed-damaged : isSound (length header) (length arena) (length index) t index ≡ false
+  module _ (s : isShaped words index header arena out-header out-body ≡ true) where
+    pub fed-damaged : isSound (length header) (length arena) (length index) (slotOf words) index ≡ false
         → after (refused 31 0) words index header arena out-header out-body ≡ feedSlot words index header arena c now-ms tick out-header out-body
     unfolding feedSlot
-    fed-damaged n = rw (s, ap (λ (x : TxSlot). isSound (length header) (length arena) (length index) x index) (sym e) ∙ n)
+    fed-damaged n = rw (s, n)
 
-    pub fed-long : isSound (length header) (length arena) (length index) t index ≡ true → 16383 < length (c .property)
+    pub fed-long : isSound (length header) (length arena) (length index) (slotOf words) index ≡ true → 16383 < length (c .property)
         → after (refused 1 0) words index header arena out-header out-body ≡ feedSlot words index header arena c now-ms tick out-header out-body
     unfolding feedSlot
-    fed-long y l = rw (s, ap (λ (x : TxSlot). isSound (length header) (length arena) (length index) x index) (sym e) ∙ y, lt-leb _ _ l)
+    fed-long y l = rw (s, y, lt-leb _ _ l)
 
-    pub fed-sound : isSound (length header) (length arena) (length index) t index ≡ true → length (c .property) ≤ 16383
-        → placed (touched t (c .request-id) now-ms tick) index header arena c
-        (judge (length header) (length arena) (length index) (contents (touched t (c .request-id) now-ms tick) index header arena) c) out-header out-body
-        ≡ feedSlot words index header arena c now-ms tick out-header out-body
+    -- w: the words of the slot that was touched
+    pub fed-sound : {w : List ℕ} {a : After} → isSound (length header) (length arena) (length index) (slotOf words) index ≡ true → length (c .property) ≤ 16383
+        → w ≡ wordsOf (touched (slotOf words) (c .request-id) now-ms tick)
+        → a ≡ placed (slotOf w) index header arena (record { request-id = slotOf w .«request_id»; header = c .header; num-chunks = c .num-chunks; chunk-num = c .chunk-num; property = c .property })
+        (judge (length header) (length arena) (length index) (contents (slotOf w) index header arena)
+        (record { request-id = slotOf w .«request_id»; header = c .header; num-chunks = c .num-chunks; chunk-num = c .chunk-num; property = c .property })) out-header out-body
+        → a ≡ feedSlot words index header arena c now-ms tick out-header out-body
     unfolding feedSlot contents
-    fed-sound y l =
-        rw (s, ap (λ (x : TxSlot). isSound (length header) (length arena) (length index) x index) (sym e) ∙ y, le-leb _ _ l)
-        (ap (λ (x : TxSlot). placed (touched x (c .request-id) now-ms tick) index header arena c
-        (judge (length header) (length arena) (length index) (contents x index header arena) c) out-header out-body) e)
+    fed-sound y l e q = q ∙ rw (e, s, y, le-leb _ _ l)

@@ -13,18 +13,14 @@ use Rattle.seven_bit.proofs.ReplyLaws.{and-told}
 use Rattle.seven_bit.specs.Parts.{splice}
 use Rattle.seven_bit.specs.Reply.{refused}
 use Rattle.seven_bit.proofs.PartLaws.{length-splice}
-use Rattle.pe_wire.specs.declared.error.PeError.{PeError}
 use Rattle.pe_frame.specs.Chunk.{Chunk}
 use Rattle.pe_slot.specs.declared.slot.TxSlot.{TxSlot}
-use Rattle.pe_slot.specs.declared.slot.Judged.{Judged}
 use Rattle.pe_slot.specs.Slot.{Slot, Verdict, isWhole, afterChunk, slotAfter, judge}
 use Rattle.pe_slot.specs.Memory.{slotOf, wordsOf, packed, piecesOf, contents, endsAt, isEnd, isSound}
-use Rattle.pe_slot.specs.Records.{holds}
 use Rattle.pe_slot.specs.Feed.{After, after, touched, grown, closed, placed, isShaped, feedSlot}
-use Rattle.pe_slot.specs.Steps.{judgedOf, grownBy}
 use Rattle.pe_slot.proofs.SlotMemory.{ends-grown}
-use Rattle.pe_slot.proofs.JudgeLaws.{verdictOf, judge-is, header-fits, piece-fits}
-use Rattle.pe_slot.proofs.FeedLaws.{contents-kept, contents-grown, length-kept, new-length}
+use Rattle.pe_slot.proofs.JudgeLaws.{Fitting, judge-fitting}
+use Rattle.pe_slot.proofs.FeedLaws.{newIndex, newArena, contents-grown, length-kept}
 
 -- what a sound slot's memory is known to hold
 pub record Sound (H B R : ℕ) (t : TxSlot) (index : List ℕ) : Type 0 where
@@ -64,85 +60,73 @@ opened a = go (eqb a 0) refl
 
 module _ (t : TxSlot) (index header arena : List ℕ) (c : Chunk) (out-header out-body : List ℕ) (s : Sound (length header) (length arena) (length index) t index)
     (short : length (c .property) ≤ 16383) (named : c .chunk-num < 65536) where
-  -- the flags of a verdict are those that were judged
-  module _ (error : PeError) (stores takes closes : Bool) (next : Slot) (fits : stores ≡ true → length (c .header) ≤ length header) where
-    follows : (p : Bool) → (p ≡ true → (t .«index_len» < length index) × (t .«property_bytes» + length (c .property) ≤ length arena))
-        → (let v : Verdict = verdictOf p error stores takes closes next in
-        let a : After = placed t index header arena c v out-header out-body in
+  module _ (v : Verdict) (f : Fitting t index header arena c v) where
+    follows :
+        (let a : After = placed t index header arena c v out-header out-body in
         contents (grown t c v) (a .index) (a .header) (a .arena) ≡ slotAfter (contents t index header arena) c v)
     unfolding placed
-    follows true f =
-        let r = f refl in
-        contents-grown t index header arena c stores takes fits (r .0) (s .ends) (r .1) named (omega arith)
-    follows false f = contents-kept t index header arena c stores takes fits
+    follows = contents-grown t index header arena c (v .stores) (v .takes) (v .adds) (f .fits) (f .few) (f .room) (s .ends) named (omega arith)
 
     module _ (active : eqb (t .active) 0 ≡ false) where
       either : (H B R : ℕ) (i : List ℕ) (b : Bool) (g : TxSlot) → isSound H B R g i ≡ true → isSound H B R (slotOf (wordsOf (cond b (closed g) g))) i ≡ true
       either H B R i true g e = sound-closed H B R g i
       either H B R i false g e = e
 
-      again : (p : Bool) → (p ≡ true → (t .«index_len» < length index) × (t .«property_bytes» + length (c .property) ≤ length arena))
-          → (let v : Verdict = verdictOf p error stores takes closes next in
-          let a : After = placed t index header arena c v out-header out-body in
-          isSound (length (a .header)) (length (a .arena)) (length (a .index)) (slotOf (a .words)) (a .index) ≡ true)
-      unfolding placed
-      again true f =
-          let r = f refl in
-          let few = r .0 in
-          let room = r .1 in
-          let i : List ℕ = set index (t .«index_len») (packed (c .chunk-num) (length (c .property)) (t .«property_bytes»)) in
-          let g : TxSlot = grownBy t stores takes true (length (c .header)) (c .num-chunks) (length (c .property)) in
-          let li : length i ≡ length index = simp length-set in
-          rw (
-            length-kept stores header (c .header) fits,
-            length-splice (t .«property_bytes») (length (c .property)) arena (c .property) room refl,
-            li,
-          )
-          (either (length header) (length arena) (length index) i (isWhole (next .header) (next .count) (next .pieces)) g
-          (sound-open (length header) (length arena) (length index) g i
-          (record {
-            head = new-length stores _ _ _ fits (s .head);
+      head-within : (b : Bool) → (b ≡ true → length (c .header) ≤ length header) → cond b (length (c .header)) (t .«header_len») ≤ length header
+      head-within true g = g refl
+      head-within false g = s .head
+
+      -- the records with the piece, where one is added
+      record Adding (b : Bool) (i d : List ℕ) : Type 0 where
+        same-index : length i ≡ length index
+        same-arena : length d ≡ length arena
+        held : cond b (t .«index_len» + 1) (t .«index_len») ≤ length index
+        body : cond b (t .«property_bytes» + length (c .property)) (t .«property_bytes») ≤ length arena
+        ends : endsAt 0 (take (cond b (t .«index_len» + 1) (t .«index_len»)) i) ≡ some (cond b (t .«property_bytes» + length (c .property)) (t .«property_bytes»))
+
+      adding : (b : Bool) → (b ≡ true → t .«index_len» < length index) → (b ≡ true → t .«property_bytes» + length (c .property) ≤ length arena)
+          → Adding b (newIndex t index header arena c b) (newArena t index header arena c b)
+      adding true g h =
+          let few = g refl in
+          let room = h refl in
+          record {
+            same-index = simp length-set;
+            same-arena = length-splice (t .«property_bytes») (length (c .property)) arena (c .property) room refl;
             held = omega arith;
             body = room;
             ends = ends-grown index arena (t .«index_len») (t .«property_bytes») (c .chunk-num) (c .property) few (s .ends) room named (omega arith);
-          }) active))
-      again false f =
-          let g : TxSlot = grownBy t stores takes false (length (c .header)) (c .num-chunks) (length (c .property)) in
-          rw (length-kept stores header (c .header) fits)
-          (either (length header) (length arena) (length index) index closes g
-          (sound-open (length header) (length arena) (length index) g index
-          (record { head = new-length stores _ _ _ fits (s .head); held = s .held; body = s .body; ends = s .ends }) active))
+          }
+      adding false g h = record { same-index = refl; same-arena = refl; held = s .held; body = s .body; ends = s .ends }
 
-  abbrev j : Judged
-  j = judgedOf t header c (holds (c .chunk-num) (take (t .«index_len») index)) (length index) (length arena)
+      again :
+          (let a : After = placed t index header arena c v out-header out-body in
+          isSound (length (a .header)) (length (a .arena)) (length (a .index)) (slotOf (a .words)) (a .index) ≡ true)
+      unfolding placed
+      again =
+          let p = adding (v .adds) (f .few) (f .room) in
+          rw (length-kept t index header arena c (v .stores) (f .fits), p .same-arena, p .same-index)
+          (either (length header) (length arena) (length index) (newIndex t index header arena c (v .adds)) (v .closes) (grown t c v)
+          (sound-open (length header) (length arena) (length index) (grown t c v) (newIndex t index header arena c (v .adds))
+          (record { head = head-within (v .stores) (f .fits); held = p .held; body = p .body; ends = p .ends }) active))
 
-  judged-fits : j .stores ≡ true → length (c .header) ≤ length header
-  judged-fits e = leb-true _ _ (header-fits t header c (holds (c .chunk-num) (take (t .«index_len») index)) (length index) (length arena) e)
+-- so it is of what the questions say
+module _ (t : TxSlot) (index header arena : List ℕ) (c : Chunk) (out-header out-body : List ℕ) (s : Sound (length header) (length arena) (length index) t index)
+    (short : length (c .property) ≤ 16383) (named : c .chunk-num < 65536) where
+  abbrev said : Verdict
+  said = judge (length header) (length arena) (length index) (contents t index header arena) c
 
-  judged-room : j .passed ≡ true → (t .«index_len» < length index) × (t .«property_bytes» + length (c .property) ≤ length arena)
-  judged-room e =
-      let p = piece-fits t header c (holds (c .chunk-num) (take (t .«index_len») index)) (length index) (length arena) e in
-      (ltb-true _ _ (p .fewer), leb-true _ _ (p .room))
+  fitting : Fitting t index header arena c said
+  fitting = judge-fitting t index header arena c (s .held) (s .ends) (s .body)
 
-  grown-follows :
-      (let v : Verdict = judge (length header) (length arena) (length index) (contents t index header arena) c in
-      let a : After = placed t index header arena c v out-header out-body in
-      contents (grown t c v) (a .index) (a .header) (a .arena) ≡ slotAfter (contents t index header arena) c v)
-  grown-follows =
-      subst (λ (v : Verdict). contents (grown t c v) (placed t index header arena c v out-header out-body .index) (placed t index header arena c v out-header out-body .header)
-      (placed t index header arena c v out-header out-body .arena) ≡ slotAfter (contents t index header arena) c v)
-      (sym (judge-is t index header arena c (s .held) (s .ends) (s .body)))
-      (follows (j .error) (j .stores) (j .takes) (j .closes) _ judged-fits (j .passed) judged-room)
+  said-follows :
+      (let a : After = placed t index header arena c said out-header out-body in
+      contents (grown t c said) (a .index) (a .header) (a .arena) ≡ slotAfter (contents t index header arena) c said)
+  said-follows = follows t index header arena c out-header out-body s short named said fitting
 
-  placed-sound : eqb (t .active) 0 ≡ false →
-      (let a : After = placed t index header arena c (judge (length header) (length arena) (length index) (contents t index header arena) c) out-header out-body in
+  said-sound : eqb (t .active) 0 ≡ false →
+      (let a : After = placed t index header arena c said out-header out-body in
       isSound (length (a .header)) (length (a .arena)) (length (a .index)) (slotOf (a .words)) (a .index) ≡ true)
-  placed-sound active =
-      subst (λ (v : Verdict). isSound (length (placed t index header arena c v out-header out-body .header)) (length (placed t index header arena c v out-header out-body .arena))
-      (length (placed t index header arena c v out-header out-body .index)) (slotOf (placed t index header arena c v out-header out-body .words))
-      (placed t index header arena c v out-header out-body .index) ≡ true)
-      (sym (judge-is t index header arena c (s .held) (s .ends) (s .body)))
-      (again (j .error) (j .stores) (j .takes) (j .closes) _ judged-fits active (j .passed) judged-room)
+  said-sound active = again t index header arena c out-header out-body s short named said fitting active
 
 words-as : (b : Bool) (g : TxSlot) → b ≡ false → slotOf (wordsOf (cond b (closed g) g)) ≡ g
 words-as b g o = ap (λ (x : Bool). slotOf (wordsOf (cond x (closed g) g))) o
@@ -158,7 +142,7 @@ module _ (t : TxSlot) (index header arena : List ℕ) (c : Chunk) (out-header ou
       let v : Verdict = judge (length header) (length arena) (length index) (contents t index header arena) c in
       let a : After = placed t index header arena c v out-header out-body in
       ap (λ (x : TxSlot). contents x (a .index) (a .header) (a .arena)) (words-open v o)
-      ∙ grown-follows t index header arena c out-header out-body (sound-told _ _ _ t index e) short named
+      ∙ said-follows t index header arena c out-header out-body (sound-told _ _ _ t index e) short named
     where
       words-open : (v : Verdict) → v .closes ≡ false → slotOf (placed t index header arena c v out-header out-body .words) ≡ grown t c v
       words-open v o = words-as (v .closes) (grown t c v) o
@@ -192,5 +176,5 @@ sound-again words index header arena c now-ms tick out-header out-body named e =
     go true false q = e
     go true true q =
         let s = sound-told _ _ _ (slotOf words) index e in
-        placed-sound (touched (slotOf words) (c .request-id) now-ms tick) index header arena c out-header out-body
+        said-sound (touched (slotOf words) (c .request-id) now-ms tick) index header arena c out-header out-body
         (record { head = s .head; held = s .held; body = s .body; ends = s .ends }) (leb-true _ _ q) named (opened (slotOf words .active))

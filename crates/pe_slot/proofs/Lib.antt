@@ -9,6 +9,7 @@ pub mod OrderJoinLaws
 pub mod PlacedLaws
 pub mod SlotHeaders
 pub mod SlotMemory
+pub mod SlotWords
 pub mod JudgeLaws
 pub mod FeedLaws
 pub mod FeedAsked

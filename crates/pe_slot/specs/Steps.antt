@@ -1,20 +1,18 @@
--- What the private steps of a feed say.
+-- What the private steps of a feed say: the answer, and the memory that the step may change. Words are named by their places in a slot's nine.
 -- Assumes nothing.
 use Prim.Native.Nat.{ℕ, _+_, _≤_}
-use mathlib.Core.Bool.{Bool, true, false, cond, not, _&&_, _||_}
+use mathlib.Core.Bool.{Bool, true, cond, not, _&&_, _||_}
 use mathlib.Core.List.{List}
 use mathlib.Core.Option.{some}
 use mathlib.Core.Path.{_≡_}
 use lib.Dec.{leb, ltb, eqb}
-use lib.ListN.{length, take}
+use lib.ListN.{length, take, set}
+use Rattle.seven_bit.specs.Parts.{splice}
 use Rattle.seven_bit.specs.Reply.{Reply, granted}
-use Rattle.pe_wire.specs.declared.error.PeError.{PeError}
 use Rattle.pe_wire.specs.declared.error.PeError.the-variants.{HeaderTooLarge, Oversize, InconsistentChunking}
-use Rattle.pe_frame.specs.Chunk.{Chunk}
-use Rattle.pe_slot.specs.declared.slot.TxSlot.{TxSlot}
-use Rattle.pe_slot.specs.declared.slot.Judged.{Judged}
+use Rattle.pe_slot.specs.declared.slot.Asked.{Asked}
 use Rattle.pe_slot.specs.Slot.{Slot, eqList, isWhole, eventOf}
-use Rattle.pe_slot.specs.Memory.{wordsOf, endsAt}
+use Rattle.pe_slot.specs.Memory.{slotOf, wordsOf, packed, endsAt}
 use Rattle.pe_slot.specs.Feed.{Told, toldAnswer, outHeader, outBody, closed}
 
 -- The part of question 31 that needs no pass over the records.
@@ -25,66 +23,79 @@ isBounded H B R active header-len index-len property-bytes =
     && leb property-bytes B
     && (not (eqb active 0) || (eqb header-len 0 && eqb index-len 0))
 
-abbrev pub judged : Bool → PeError → Bool → Bool → Bool → Judged
-judged passed error stores takes closes = record { passed = passed; error = error; stores = stores; takes = takes; closes = closes }
-
--- A slot's questions in their order, and what each no leaves; `error` is read only where they are not all passed.
-unfoldable pub judgedBy : Bool → Bool → Bool → Bool → Bool → Bool → Bool → Bool → Bool → Judged
-judgedBy fits agrees stores counts takes numbered held few roomy =
-    cond fits
-    (cond agrees
-    (cond counts
-    (cond numbered
-    (cond held (judged false InconsistentChunking stores takes false)
-    (cond few
-    (cond roomy (judged true Oversize stores takes false)
-    (judged false Oversize stores takes true))
-    (judged false Oversize stores takes false)))
-    (judged false InconsistentChunking stores takes true))
-    (judged false InconsistentChunking stores false false))
-    (judged false InconsistentChunking false false false))
-    (judged false HeaderTooLarge false false false)
-
--- The same of a slot's words, its header room, whether the chunk's number is held, and the rooms' lengths R and B.
-unfoldable pub judgedOf : TxSlot → List ℕ → Chunk → Bool → ℕ → ℕ → Judged
-judgedOf t header c held R B =
-    judgedBy
-    (not (eqb (c .chunk-num) 1) || leb (length (c .header)) (length header))
-    (not (eqb (c .chunk-num) 1) || (eqb (t .«header_set») 0 || eqList (take (t .«header_len») header) (c .header)))
-    (eqb (c .chunk-num) 1 && eqb (t .«header_set») 0)
-    (eqb (c .num-chunks) 0 || eqb (t .«num_chunks») 0 || eqb (t .«num_chunks») (c .num-chunks))
-    (not (eqb (c .num-chunks) 0) && eqb (t .«num_chunks») 0)
-    (not (eqb (c .chunk-num) 0))
-    held
-    (ltb (t .«index_len») R)
-    (leb (t .«property_bytes» + length (c .property)) B)
-
--- The words with what was stored, taken and added.
-abbrev pub grownBy : TxSlot → Bool → Bool → Bool → ℕ → ℕ → ℕ → TxSlot
-grownBy t stores takes adds header-len num-chunks property-len =
-    record {
-      active = t .active;
-      «request_id» = t .«request_id»;
-      «last_activity_ms» = t .«last_activity_ms»;
-      «lru_tick» = t .«lru_tick»;
-      «num_chunks» = cond takes num-chunks (t .«num_chunks»);
-      «header_set» = cond stores 1 (t .«header_set»);
-      «header_len» = cond stores header-len (t .«header_len»);
-      «index_len» = cond adds (t .«index_len» + 1) (t .«index_len»);
-      «property_bytes» = cond adds (t .«property_bytes» + property-len) (t .«property_bytes»);
-    }
-
 -- A slot's memory is sound, and the outputs have room.
-pub record Ready (t : TxSlot) (words index header arena out-header out-body : List ℕ) : Type 0 where
+pub record Ready (words index header arena out-header out-body : List ℕ) : Type 0 where
   pub nine : length words ≡ 9
-  pub head : t .«header_len» ≤ length header
-  pub held : t .«index_len» ≤ length index
+  pub head : slotOf words .«header_len» ≤ length header
+  pub held : slotOf words .«index_len» ≤ length index
   pub records : length index ≤ 2048
-  pub ends : endsAt 0 (take (t .«index_len») index) ≡ some (t .«property_bytes»)
-  pub body : t .«property_bytes» ≤ length arena
+  pub ends : endsAt 0 (take (slotOf words .«index_len») index) ≡ some (slotOf words .«property_bytes»)
+  pub body : slotOf words .«property_bytes» ≤ length arena
   pub bytes : length arena ≤ 65536
   pub header-room : length header ≤ length out-header
   pub body-room : length arena ≤ length out-body
+
+-- The words of a slot that closes.
+abbrev pub cleared : List ℕ → List ℕ
+cleared words = wordsOf (closed (slotOf words))
+
+-- Frame 1's header: 4 where it is too long; it is stored where none is known (words 5 and 6), and else the same, or 8.
+pub record HeaderTaken : Type 0 where
+  pub asked : Asked
+  pub words : List ℕ
+  pub header : List ℕ
+
+abbrev pub headerTaken : Asked → List ℕ → List ℕ → HeaderTaken
+headerTaken asked words header = record { asked = asked; words = words; header = header }
+
+unfoldable pub takeHeader : List ℕ → List ℕ → ℕ → List ℕ → HeaderTaken
+takeHeader words header number new =
+    cond (eqb number 1)
+    (cond (leb (length new) (length header))
+    (cond (eqb (slotOf words .«header_set») 0)
+    (headerTaken Asked.Yes (set (set words 5 1) 6 (length new)) (splice 0 (length new) header new))
+    (cond (eqList (take (slotOf words .«header_len») header) new)
+    (headerTaken Asked.Yes words header)
+    (headerTaken (Asked.No InconsistentChunking) words header)))
+    (headerTaken (Asked.No HeaderTooLarge) words header))
+    (headerTaken Asked.Yes words header)
+
+-- The count: taken where none is known (word 4), and else 0 or the same.
+pub record CountTaken : Type 0 where
+  pub agrees : Bool
+  pub words : List ℕ
+
+abbrev pub countTaken : Bool → List ℕ → CountTaken
+countTaken agrees words = record { agrees = agrees; words = words }
+
+unfoldable pub takeCount : List ℕ → ℕ → CountTaken
+takeCount words count =
+    cond (eqb count 0) (countTaken true words)
+    (cond (eqb (slotOf words .«num_chunks») 0) (countTaken true (set words 4 count))
+    (countTaken (eqb (slotOf words .«num_chunks») count) words))
+
+-- The piece: number not 0, not held, fewer than R records (words 7 and 8), body still at most B.
+pub record PieceAdded : Type 0 where
+  pub asked : Asked
+  pub words : List ℕ
+  pub index : List ℕ
+  pub arena : List ℕ
+
+abbrev pub pieceAdded : Asked → List ℕ → List ℕ → List ℕ → PieceAdded
+pieceAdded asked words index arena = record { asked = asked; words = words; index = index; arena = arena }
+
+unfoldable pub addPiece : List ℕ → List ℕ → List ℕ → ℕ → List ℕ → Bool → PieceAdded
+addPiece words index arena number property held =
+    cond (eqb number 0) (pieceAdded (Asked.No InconsistentChunking) (cleared words) index arena)
+    (cond held (pieceAdded (Asked.No InconsistentChunking) words index arena)
+    (cond (ltb (slotOf words .«index_len») (length index))
+    (cond (leb (slotOf words .«property_bytes» + length property) (length arena))
+    (pieceAdded Asked.Yes
+    (set (set words 7 (slotOf words .«index_len» + 1)) 8 (slotOf words .«property_bytes» + length property))
+    (set index (slotOf words .«index_len») (packed number (length property) (slotOf words .«property_bytes»)))
+    (splice (slotOf words .«property_bytes») (length property) arena property))
+    (pieceAdded (Asked.No Oversize) (cleared words) index arena))
+    (pieceAdded (Asked.No Oversize) words index arena)))
 
 -- What the last step leaves.
 pub record Finished : Type 0 where
@@ -97,10 +108,10 @@ abbrev pub finished : Reply Told → List ℕ → List ℕ → List ℕ → Fini
 finished answer words out-header out-body = record { answer = answer; words = words; out-header = out-header; out-body = out-body }
 
 -- A slot that holds a whole list is told and closes; else the answer is waiting.
-unfoldable pub finishOf : TxSlot → Slot → List ℕ → List ℕ → Finished
-finishOf t s out-header out-body =
+unfoldable pub finishOf : List ℕ → Slot → List ℕ → List ℕ → Finished
+finishOf words s out-header out-body =
     finished
     (toldAnswer (granted (eventOf (s .header) (s .count) (s .pieces))))
-    (wordsOf (cond (isWhole (s .header) (s .count) (s .pieces)) (closed t) t))
+    (cond (isWhole (s .header) (s .count) (s .pieces)) (cleared words) words)
     (outHeader (granted (eventOf (s .header) (s .count) (s .pieces))) out-header)
     (outBody (granted (eventOf (s .header) (s .count) (s .pieces))) out-body)

@@ -5,17 +5,16 @@ use super::records::pack;
 use super::records::scan;
 use pe_wire::error::PeError;
 use pe_wire::wire::U14_MAX;
-ghost use mathlib.Core.Bool.{false, cond, not, _&&_, _||_};
+ghost use mathlib.Core.Bool.{not, _&&_, _||_};
 ghost use mathlib.Core.Path.{_≡_};
-ghost use Prim.Native.Nat.{_+_, _≤_};
-ghost use lib.Dec.{leb, ltb, eqb};
-ghost use lib.ListN.{length, take, set};
-ghost use Rattle.seven_bit.specs.Parts.{splice, putFit};
+ghost use Prim.Native.Nat.{_≤_};
+ghost use lib.Dec.{leb, eqb};
+ghost use lib.ListN.{length, take};
 ghost use Rattle.pe_slot.specs.Slot.{eqList, judge};
-ghost use Rattle.pe_slot.specs.Memory.{slotOf, wordsOf, packed, contents, isEnd};
+ghost use Rattle.pe_slot.specs.Memory.{slotOf, wordsOf, contents};
 ghost use Rattle.pe_slot.specs.Feed.{after, feedSlot, fedTold, placed, touched, closed};
 ghost use Rattle.pe_slot.specs.Records.{holds};
-ghost use Rattle.pe_slot.specs.Steps.{isBounded, judged, judgedBy, judgedOf, grownBy, Ready, finished, finishOf};
+ghost use Rattle.pe_slot.specs.Steps.{isBounded, Ready, headerTaken, takeHeader, countTaken, takeCount, pieceAdded, addPiece, finished, finishOf};
 
 const SLOT_WORDS: usize = 9;
 
@@ -38,124 +37,30 @@ pub struct TxSlot {
     pub property_bytes: u64,
 }
 
+// The places of its words.
+const ACTIVE: usize = 0;
+
+const REQUEST_ID: usize = 1;
+
+const LAST_ACTIVITY_MS: usize = 2;
+
+const LRU_TICK: usize = 3;
+
+const NUM_CHUNKS: usize = 4;
+
+const HEADER_SET: usize = 5;
+
+const HEADER_LEN: usize = 6;
+
+const INDEX_LEN: usize = 7;
+
+const PROPERTY_BYTES: usize = 8;
+
 // What feeding a chunk answers: Whole has the lengths of header and body in the outputs.
 pub enum Fed {
     Waiting,
     Whole(usize, usize),
     Refused(PeError),
-}
-
-// What the questions of a chunk leave: a refusal where they are not all passed, and what is stored, taken and closed.
-pub(crate) struct Judged {
-    pub passed: bool,
-    pub error: PeError,
-    pub stores: bool,
-    pub takes: bool,
-    pub closes: bool,
-}
-
-// The slot that nine words hold.
-fn load(words: &[u64]) -> TxSlot
-    requires { ⌜ length (now words) ≡ 9 ⌝ }
-    ensures { λ r. ⌜ r ≡ slotOf (now (words .entry)) ⌝ }
-{
-    TxSlot {
-        active: words[0],
-        request_id: words[1],
-        last_activity_ms: words[2],
-        lru_tick: words[3],
-        num_chunks: words[4],
-        header_set: words[5],
-        header_len: words[6],
-        index_len: words[7],
-        property_bytes: words[8],
-    }
-}
-
-// The nine words that hold the slot t.
-fn store(words: &mut [u64], t: TxSlot)
-    requires { ⌜ length (now words) ≡ 9 ⌝ }
-    ensures { λ _. ⌜ now (words .exit) ≡ wordsOf t ⌝ }
-{
-    words[0] = t.active;
-    words[1] = t.request_id;
-    words[2] = t.last_activity_ms;
-    words[3] = t.lru_tick;
-    words[4] = t.num_chunks;
-    words[5] = t.header_set;
-    words[6] = t.header_len;
-    words[7] = t.index_len;
-    words[8] = t.property_bytes;
-}
-
-// new where it is asked for, and else old.
-fn pick(b: bool, new: u64, old: u64) -> u64
-    ensures { λ r. ⌜ r ≡ cond b new old ⌝ }
-{
-    if b {
-        return new;
-    }
-    old
-}
-
-// Time and tick are set, and a free slot is opened.
-fn touch(t: TxSlot, request_id: u8, now_ms: u64, tick: u64) -> TxSlot
-    ensures { λ r. ⌜ r ≡ touched t «request_id» «now_ms» tick ⌝ }
-{
-    TxSlot {
-        active: pick(t.active == 0, 1, t.active),
-        request_id: request_id as u64,
-        last_activity_ms: now_ms,
-        lru_tick: tick,
-        num_chunks: t.num_chunks,
-        header_set: t.header_set,
-        header_len: t.header_len,
-        index_len: t.index_len,
-        property_bytes: t.property_bytes,
-    }
-}
-
-// The words with what was stored, taken and added.
-fn grow(
-    t: TxSlot,
-    stores: bool,
-    takes: bool,
-    adds: bool,
-    header_len: u64,
-    num_chunks: u64,
-    property_len: u64,
-) -> TxSlot
-    requires { ⌜ (t .«index_len» ≤ 2048) × (t .«property_bytes» ≤ 65536) × («property_len» ≤ 16383) ⌝ }
-    ensures { λ r. ⌜ r ≡ grownBy t stores takes adds «header_len» «num_chunks» «property_len» ⌝ }
-{
-    TxSlot {
-        active: t.active,
-        request_id: t.request_id,
-        last_activity_ms: t.last_activity_ms,
-        lru_tick: t.lru_tick,
-        num_chunks: pick(takes, num_chunks, t.num_chunks),
-        header_set: pick(stores, 1, t.header_set),
-        header_len: pick(stores, header_len, t.header_len),
-        index_len: pick(adds, t.index_len + 1, t.index_len),
-        property_bytes: pick(adds, t.property_bytes + property_len, t.property_bytes),
-    }
-}
-
-// A closed slot: all but the tick is 0.
-fn close(t: TxSlot) -> TxSlot
-    ensures { λ r. ⌜ r ≡ closed t ⌝ }
-{
-    TxSlot {
-        active: 0,
-        request_id: 0,
-        last_activity_ms: 0,
-        lru_tick: t.lru_tick,
-        num_chunks: 0,
-        header_set: 0,
-        header_len: 0,
-        index_len: 0,
-        property_bytes: 0,
-    }
 }
 
 // Are there nine words, rooms in range, and outputs as long as the rooms?
@@ -241,232 +146,154 @@ fn same(a: &[u8], b: &[u8]) -> bool
     true
 }
 
-// Chunk 1: does the header fit?
-fn header_fits(chunk_num: u16, header_len: usize, header: usize) -> bool
-    ensures { λ r. ⌜ r ≡ (not (eqb «chunk_num» 1) || leb «header_len» header) ⌝ }
+// What a question of a chunk has as its answer.
+pub(crate) enum Asked {
+    Yes,
+    No(PeError),
+}
+
+// Closes the slot: all words but the tick become 0.
+fn clear(words: &mut [u64])
+    requires { ⌜ length (now words) ≡ 9 ⌝ }
+    ensures { λ _. ⌜ now (words .exit) ≡ wordsOf (closed (slotOf (now (words .entry)))) ⌝ }
+{
+    words[ACTIVE] = 0;
+    words[REQUEST_ID] = 0;
+    words[LAST_ACTIVITY_MS] = 0;
+    words[NUM_CHUNKS] = 0;
+    words[HEADER_SET] = 0;
+    words[HEADER_LEN] = 0;
+    words[INDEX_LEN] = 0;
+    words[PROPERTY_BYTES] = 0;
+}
+
+// Time and tick are set, and a free slot is opened.
+fn touch(words: &mut [u64], request_id: u8, now_ms: u64, tick: u64)
+    requires { ⌜ length (now words) ≡ 9 ⌝ }
+    ensures { λ _. ⌜ now (words .exit) ≡ wordsOf (touched (slotOf (now (words .entry))) «request_id» «now_ms» tick) ⌝ }
+{
+    words[REQUEST_ID] = request_id as u64;
+    words[LAST_ACTIVITY_MS] = now_ms;
+    words[LRU_TICK] = tick;
+    if words[ACTIVE] == 0 {
+        words[ACTIVE] = 1;
+    }
+}
+
+// Chunk 1: does its header fit, and is it the one that is known? The first is stored.
+fn take_header(words: &mut [u64], header: &mut [u8], chunk_num: u16, chunk_header: &[u8]) -> Asked
+    requires { ⌜ (length (now words) ≡ 9) × (slotOf (now words) .«header_len» ≤ length (now header)) ⌝ }
+    ensures { λ r. ⌜ headerTaken r (now (words .exit)) (now (header .exit)) ≡ takeHeader (now (words .entry)) (now (header .entry)) «chunk_num» (now («chunk_header» .entry)) ⌝ }
 {
     if chunk_num != 1 {
-        return true;
+        return Asked::Yes;
     }
-    header_len <= header
-}
-
-// Chunk 1: is no header known, or the same?
-fn header_agrees(chunk_num: u16, header_set: u64, same: bool) -> bool
-    ensures { λ r. ⌜ r ≡ (not (eqb «chunk_num» 1) || (eqb «header_set» 0 || same)) ⌝ }
-{
-    if chunk_num != 1 {
-        return true;
+    if chunk_header.len() > header.len() {
+        return Asked::No(PeError::HeaderTooLarge);
     }
-    if header_set == 0 {
-        return true;
-    }
-    same
-}
-
-// Is it chunk 1, and no header known?
-fn is_new_header(chunk_num: u16, header_set: u64) -> bool
-    ensures { λ r. ⌜ r ≡ (eqb «chunk_num» 1 && eqb «header_set» 0) ⌝ }
-{
-    if chunk_num != 1 {
-        return false;
-    }
-    header_set == 0
-}
-
-// Is the chunk's count 0, or none known, or the same?
-fn count_agrees(num_chunks: u64, known: u64) -> bool
-    ensures { λ r. ⌜ r ≡ (eqb «num_chunks» 0 || eqb known 0 || eqb known «num_chunks») ⌝ }
-{
-    if num_chunks == 0 {
-        return true;
-    }
-    if known == 0 {
-        return true;
-    }
-    known == num_chunks
-}
-
-// Is the chunk's count not 0, and none known?
-fn is_new_count(num_chunks: u64, known: u64) -> bool
-    ensures { λ r. ⌜ r ≡ (not (eqb «num_chunks» 0) && eqb known 0) ⌝ }
-{
-    if num_chunks == 0 {
-        return false;
-    }
-    known == 0
-}
-
-// A no, with what it leaves.
-fn refuses(error: PeError, stores: bool, takes: bool, closes: bool) -> Judged
-    ensures { λ r. ⌜ r ≡ judged false error stores takes closes ⌝ }
-{
-    Judged {
-        passed: false,
-        error,
-        stores,
-        takes,
-        closes,
-    }
-}
-
-// The questions in their order: 4, 8, 8, 8 and closing, 8, 5, 5 and closing. The error is read only where they are not all passed.
-fn judge(
-    fits: bool,
-    agrees: bool,
-    stores: bool,
-    counts: bool,
-    takes: bool,
-    numbered: bool,
-    held: bool,
-    few: bool,
-    roomy: bool,
-) -> Judged
-    ensures { λ r. ⌜ r ≡ judgedBy fits agrees stores counts takes numbered held few roomy ⌝ }
-{
-    if !fits {
-        return refuses(PeError::HeaderTooLarge, false, false, false);
-    }
-    if !agrees {
-        return refuses(PeError::InconsistentChunking, false, false, false);
-    }
-    if !counts {
-        return refuses(PeError::InconsistentChunking, stores, false, false);
-    }
-    if !numbered {
-        return refuses(PeError::InconsistentChunking, stores, takes, true);
-    }
-    if held {
-        return refuses(PeError::InconsistentChunking, stores, takes, false);
-    }
-    if !few {
-        return refuses(PeError::Oversize, stores, takes, false);
-    }
-    if !roomy {
-        return refuses(PeError::Oversize, stores, takes, true);
-    }
-    Judged {
-        passed: true,
-        error: PeError::Oversize,
-        stores,
-        takes,
-        closes: false,
-    }
-}
-
-// The questions of a chunk, on a slot's words, its header room, whether its number is held, and the lengths of the other rooms.
-fn ask(
-    t: TxSlot,
-    header: &[u8],
-    chunk_header: &[u8],
-    num_chunks: u16,
-    chunk_num: u16,
-    property: &[u8],
-    held: bool,
-    index: usize,
-    arena: usize,
-) -> Judged
-    requires { ⌜ (t .«header_len» ≤ length (now header)) × (t .«property_bytes» ≤ 65536) × (length (now property) ≤ 16383) ⌝ }
-    ensures { λ r. ⌜ r ≡ judgedOf t (now (header .entry)) (record { request-id = t .«request_id»; header = now («chunk_header» .entry); num-chunks = «num_chunks»; chunk-num = «chunk_num»; property = now (property .entry) }) held index arena ⌝ }
-{
-    let len = t.header_len as usize;
-    let header_set = t.header_set;
-    let known = t.num_chunks;
-    let index_len = t.index_len as usize;
-    let property_bytes = t.property_bytes as usize;
-    let same = same(&header[..len], chunk_header);
-    judge(
-        header_fits(chunk_num, chunk_header.len(), header.len()),
-        header_agrees(chunk_num, header_set, same),
-        is_new_header(chunk_num, header_set),
-        count_agrees(num_chunks as u64, known),
-        is_new_count(num_chunks as u64, known),
-        chunk_num != 0,
-        held,
-        index_len < index,
-        property_bytes + property.len() <= arena,
-    )
-}
-
-// The header is stored, where that is asked for.
-fn keep_header(header: &mut [u8], chunk_header: &[u8], stores: bool)
-    ensures { λ _. ⌜ now (header .exit) ≡ cond stores (putFit (now (header .entry)) 0 (now («chunk_header» .entry))) (now (header .entry)) ⌝ }
-{
-    if stores {
+    if words[HEADER_SET] == 0 {
         seven_bit::copy_in(header, 0, chunk_header);
+        words[HEADER_SET] = 1;
+        words[HEADER_LEN] = chunk_header.len() as u64;
+        return Asked::Yes;
     }
+    let len = words[HEADER_LEN] as usize;
+    if same(&header[..len], chunk_header) {
+        return Asked::Yes;
+    }
+    Asked::No(PeError::InconsistentChunking)
 }
 
-// A piece behind those that are held: its bytes and its record.
+// Is the chunk's count 0, or the one that is known? The first is taken.
+fn take_count(words: &mut [u64], num_chunks: u16) -> bool
+    requires { ⌜ length (now words) ≡ 9 ⌝ }
+    ensures { λ r. ⌜ countTaken r (now (words .exit)) ≡ takeCount (now (words .entry)) «num_chunks» ⌝ }
+{
+    if num_chunks == 0 {
+        return true;
+    }
+    if words[NUM_CHUNKS] == 0 {
+        words[NUM_CHUNKS] = num_chunks as u64;
+        return true;
+    }
+    words[NUM_CHUNKS] == num_chunks as u64
+}
+
+// Is there a number, not held, and room for a record and its bytes? Then the piece lies behind the others; held: whether its number is.
 fn add_piece(
+    words: &mut [u64],
     index: &mut [u64],
     arena: &mut [u8],
-    len: usize,
-    at: usize,
     chunk_num: u16,
     property: &[u8],
-)
-    requires { ⌜ (len + 1 ≤ length (now index)) × (at ≤ 65536) × (length (now property) ≤ 16383) ⌝ }
-    ensures { λ _. ⌜ (now (index .exit) ≡ set (now (index .entry)) len (packed «chunk_num» (length (now (property .entry))) at)) × (now (arena .exit) ≡ putFit (now (arena .entry)) at (now (property .entry))) ⌝ }
+    held: bool,
+) -> Asked
+    requires { ⌜ (length (now words) ≡ 9) × (length (now arena) ≤ 65536) × (slotOf (now words) .«property_bytes» ≤ length (now arena)) × (length (now property) ≤ 16383) ⌝ }
+    ensures { λ r. ⌜ pieceAdded r (now (words .exit)) (now (index .exit)) (now (arena .exit)) ≡ addPiece (now (words .entry)) (now (index .entry)) (now (arena .entry)) «chunk_num» (now (property .entry)) held ⌝ }
 {
-    index[len] = pack(chunk_num, property.len(), at);
-    seven_bit::copy_in(arena, at, property);
-}
-
-// The words of a slot, or of that slot closed.
-fn settle(words: &mut [u64], t: TxSlot, closes: bool)
-    requires { ⌜ length (now words) ≡ 9 ⌝ }
-    ensures { λ _. ⌜ now (words .exit) ≡ wordsOf (cond closes (closed t) t) ⌝ }
-{
-    if closes {
-        store(words, close(t));
-        return;
+    if chunk_num == 0 {
+        clear(words);
+        return Asked::No(PeError::InconsistentChunking);
     }
-    store(words, t);
+    if held {
+        return Asked::No(PeError::InconsistentChunking);
+    }
+    let len = words[INDEX_LEN] as usize;
+    if len >= index.len() {
+        return Asked::No(PeError::Oversize);
+    }
+    let at = words[PROPERTY_BYTES] as usize;
+    let end = at + property.len();
+    if end > arena.len() {
+        clear(words);
+        return Asked::No(PeError::Oversize);
+    }
+    index[len] = pack(chunk_num, property.len(), at);
+    words[INDEX_LEN] = len as u64 + 1;
+    words[PROPERTY_BYTES] = end as u64;
+    seven_bit::copy_in(arena, at, property);
+    Asked::Yes
 }
 
 // A slot with a piece more: a whole list is written to the outputs and the slot closes, or it waits.
 fn finish(
     words: &mut [u64],
-    t: TxSlot,
     index: &[u64],
     header: &[u8],
     arena: &[u8],
     out_header: &mut [u8],
     out_body: &mut [u8],
 ) -> Fed
-    requires { ⌜ Ready t (now words) (now index) (now header) (now arena) (now «out_header») (now «out_body») ⌝ }
-    ensures { λ r. ⌜ finished (fedTold r) (now (words .exit)) (now («out_header» .exit)) (now («out_body» .exit)) ≡ finishOf t (contents t (now (index .entry)) (now (header .entry)) (now (arena .entry))) (now («out_header» .entry)) (now («out_body» .entry)) ⌝ }
+    requires { ⌜ Ready (now words) (now index) (now header) (now arena) (now «out_header») (now «out_body») ⌝ }
+    ensures { λ r. ⌜ finished (fedTold r) (now (words .exit)) (now («out_header» .exit)) (now («out_body» .exit)) ≡ finishOf (now (words .entry)) (contents (slotOf (now (words .entry))) (now (index .entry)) (now (header .entry)) (now (arena .entry))) (now («out_header» .entry)) (now («out_body» .entry)) ⌝ }
 {
-    let header_set = t.header_set;
-    let header_len = t.header_len as usize;
-    let count = t.num_chunks;
-    let len = t.index_len as usize;
-    let end = t.property_bytes as usize;
-    if header_set == 0 {
-        store(words, t);
+    if words[HEADER_SET] == 0 {
         return Fed::Waiting;
     }
+    let count = words[NUM_CHUNKS];
     if count == 0 {
-        store(words, t);
         return Fed::Waiting;
     }
-    let Joined::Body(body_len) = join(count, index, len, end, arena, out_body) else {
-        store(words, t);
+    let len = words[INDEX_LEN];
+    if len < count {
+        return Fed::Waiting;
+    }
+    let end = words[PROPERTY_BYTES] as usize;
+    let Joined::Body(body_len) = join(count, index, len as usize, end, arena, out_body) else {
         return Fed::Waiting;
     };
+    let header_len = words[HEADER_LEN] as usize;
     seven_bit::copy_in(out_header, 0, &header[..header_len]);
-    store(words, close(t));
+    clear(words);
     Fed::Whole(header_len, body_len)
 }
 
-// A chunk that reaches a sound slot, already touched; held: whether its number is.
+// A chunk that reaches a sound slot, already touched, is asked the slot's questions in their order; held: whether its number is.
 fn feed_sound(
     words: &mut [u64],
     index: &mut [u64],
     header: &mut [u8],
     arena: &mut [u8],
-    t: TxSlot,
     held: bool,
     chunk_header: &[u8],
     num_chunks: u16,
@@ -475,43 +302,20 @@ fn feed_sound(
     out_header: &mut [u8],
     out_body: &mut [u8],
 ) -> Fed
-    requires { ⌜ Ready t (now words) (now index) (now header) (now arena) (now «out_header») (now «out_body») ⌝ }
-    requires { ⌜ (length (now property) ≤ 16383) × (held ≡ holds «chunk_num» (take (t .«index_len») (now index))) ⌝ }
-    ensures { λ r. ⌜ after (fedTold r) (now (words .exit)) (now (index .exit)) (now (header .exit)) (now (arena .exit)) (now («out_header» .exit)) (now («out_body» .exit)) ≡ placed t (now (index .entry)) (now (header .entry)) (now (arena .entry)) (record { request-id = t .«request_id»; header = now («chunk_header» .entry); num-chunks = «num_chunks»; chunk-num = «chunk_num»; property = now (property .entry) }) (judge (length (now (header .entry))) (length (now (arena .entry))) (length (now (index .entry))) (contents t (now (index .entry)) (now (header .entry)) (now (arena .entry))) (record { request-id = t .«request_id»; header = now («chunk_header» .entry); num-chunks = «num_chunks»; chunk-num = «chunk_num»; property = now (property .entry) })) (now («out_header» .entry)) (now («out_body» .entry)) ⌝ }
+    requires { ⌜ Ready (now words) (now index) (now header) (now arena) (now «out_header») (now «out_body») ⌝ }
+    requires { ⌜ (length (now property) ≤ 16383) × (held ≡ holds «chunk_num» (take (slotOf (now words) .«index_len») (now index))) ⌝ }
+    ensures { λ r. ⌜ after (fedTold r) (now (words .exit)) (now (index .exit)) (now (header .exit)) (now (arena .exit)) (now («out_header» .exit)) (now («out_body» .exit)) ≡ placed (slotOf (now (words .entry))) (now (index .entry)) (now (header .entry)) (now (arena .entry)) (record { request-id = slotOf (now (words .entry)) .«request_id»; header = now («chunk_header» .entry); num-chunks = «num_chunks»; chunk-num = «chunk_num»; property = now (property .entry) }) (judge (length (now (header .entry))) (length (now (arena .entry))) (length (now (index .entry))) (contents (slotOf (now (words .entry))) (now (index .entry)) (now (header .entry)) (now (arena .entry))) (record { request-id = slotOf (now (words .entry)) .«request_id»; header = now («chunk_header» .entry); num-chunks = «num_chunks»; chunk-num = «chunk_num»; property = now (property .entry) })) (now («out_header» .entry)) (now («out_body» .entry)) ⌝ }
 {
-    let len = t.index_len as usize;
-    let at = t.property_bytes as usize;
-    let v = ask(
-        t,
-        header,
-        chunk_header,
-        num_chunks,
-        chunk_num,
-        property,
-        held,
-        index.len(),
-        arena.len(),
-    );
-    let passed = v.passed;
-    let stores = v.stores;
-    let closes = v.closes;
-    let error = v.error;
-    let grown = grow(
-        t,
-        stores,
-        v.takes,
-        passed,
-        chunk_header.len() as u64,
-        num_chunks as u64,
-        property.len() as u64,
-    );
-    keep_header(header, chunk_header, stores);
-    if !passed {
-        settle(words, grown, closes);
-        return Fed::Refused(error);
+    if let Asked::No(e) = take_header(words, header, chunk_num, chunk_header) {
+        return Fed::Refused(e);
     }
-    add_piece(index, arena, len, at, chunk_num, property);
-    finish(words, grown, index, header, arena, out_header, out_body)
+    if !take_count(words, num_chunks) {
+        return Fed::Refused(PeError::InconsistentChunking);
+    }
+    if let Asked::No(e) = add_piece(words, index, arena, chunk_num, property, held) {
+        return Fed::Refused(e);
+    }
+    finish(words, index, header, arena, out_header, out_body)
 }
 
 // Do the records lie end to end, up to the place that the words say?
@@ -552,15 +356,14 @@ pub fn feed_slot(
     ) {
         return Fed::Refused(PeError::BadShape);
     }
-    let t = load(words);
-    let len = t.index_len;
-    let end = t.property_bytes;
+    let len = words[INDEX_LEN];
+    let end = words[PROPERTY_BYTES];
     if !is_bounded(
         header.len() as u64,
         arena.len() as u64,
         index.len() as u64,
-        t.active,
-        t.header_len,
+        words[ACTIVE],
+        words[HEADER_LEN],
         len,
         end,
     ) {
@@ -574,13 +377,12 @@ pub fn feed_slot(
     if property.len() > U14_MAX as usize {
         return Fed::Refused(PeError::BadField);
     }
-    let open = touch(t, request_id, now_ms, tick);
+    touch(words, request_id, now_ms, tick);
     feed_sound(
         words,
         index,
         header,
         arena,
-        open,
         held,
         chunk_header,
         num_chunks,

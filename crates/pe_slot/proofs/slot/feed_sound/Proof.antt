@@ -1,127 +1,199 @@
 use native.Mathlib.Omega.{arith}
-use borrow.Author.Needs.{needs}
-use Rattle.pe_slot.proofs.slot.feed_sound.Statement.{statement}
-use Rattle.pe_slot.proofs.slot.feed_sound.Tie as tie
 use borrow.Author.Tests.{not-true, not-false}
 use denote.Ref.{now}
 use Rattle.pe_frame.specs.Chunk.{Chunk}
-use Rattle.pe_slot.proofs.FeedLaws.{Asking, fed-refused, fed-passed, ready-grown, few}
-
-abbrev start : tie.After-slice-known7 → tie.Start
-start c = c .before .before .before .before .before .before .before .before .before .before .before .before .before .before .before
+use Rattle.pe_slot.specs.Memory.{slotOf}
+use Rattle.pe_slot.proofs.FeedLaws.{Reaching, header-no, ready-header, count-no, ready-count, piece-no, ready-piece, all-passed}
+use borrow.Author.Needs.{needs}
+use Rattle.pe_slot.proofs.slot.feed_sound.Statement.{statement}
+use Rattle.pe_slot.proofs.slot.feed_sound.Tie as tie
 
 abbrev chunk : tie.Start → Chunk
-chunk s = record { request-id = s .args .t .«request_id»; header = now (s .args .chunk-header); num-chunks = s .args .num-chunks; chunk-num = s .args .chunk-num; property = now (s .args .property) }
+chunk s =
+    record { request-id = slotOf (now (s .args .words)) .«request_id»; header = now (s .args .chunk-header); num-chunks = s .args .num-chunks; chunk-num = s .args .chunk-num; property = now (s .args .property) }
 
--- what is known once the header is kept
-asking : (c : tie.After-slice-known7) → Asking (start c .args .t) (now (start c .args .words)) (now (start c .args .index)) (now (start c .args .header)) (now (start c .args .arena)) (now (start c .args .out-header)) (now (start c .args .out-body)) (chunk (start c)) (start c .args .held) (c .before .before .before .before .before .ask .result) (c .before .before .before .before .grow .result) (c .before .before .keep-header .last .0)
-asking c =
-    let s = start c in
-    record {
-      ready = s .pre .0;
-      short = s .pre .1 .0;
-      named = (let f = s .fits in let g = s .good in omega arith);
-      holding = s .pre .1 .1;
-      asked = c .before .before .before .before .before .ask .ensures;
-      grew = c .before .before .before .before .grow .ensures;
-      kept = c .before .before .keep-header .ensures;
-    }
+reaching : (s : tie.Start) → Reaching (now (s .args .words)) (now (s .args .index)) (now (s .args .header)) (now (s .args .arena)) (chunk s) (s .args .held) (now (s .args .out-header)) (now (s .args .out-body))
+reaching s = record { ready = s .pre .0; named = (let f = s .fits in let g = s .good in omega arith); short = s .pre .1 .0; holding = s .pre .1 .1 }
 
--- src/slot.rt:455:9
-ask-requires : tie.Need-ask-requires
-ask-requires c κs = search needs
+-- src/slot.rt:309:27
+take-header-requires : tie.Need-take-header-requires
+take-header-requires c κs =
+    let u5 = c .before .before .before .before .before in
+    let u10 = u5 .before .before .before .before .before in
+    let r = u10 .pre .0 in (r .nine, r .head)
 
--- src/slot.rt:460:9
-grow-requires : tie.Need-grow-requires
-grow-requires c κs = search needs
+-- src/slot.rt:309:22
+enum-known-e : tie.Need-enum-known-e
+enum-known-e c = search needs
 
--- src/slot.rt:461:5
-keep-header-requires : tie.Need-keep-header-requires
-keep-header-requires c κs = search needs
-
--- src/slot.rt:463:9
-settle-requires : tie.Need-settle-requires
-settle-requires c κs = c .before .before .before .before .before .before .before .before .before .before .before .before .before .before .before .before .before .pre .0 .nine
-
--- src/slot.rt:464:9
+-- src/slot.rt:310:9
 same-length : tie.Need-same-length
 same-length c = search needs
 
--- src/slot.rt:464:9
+-- src/slot.rt:310:9
 same-length-2 : tie.Need-same-length-2
 same-length-2 c = search needs
 
--- src/slot.rt:464:9
+-- src/slot.rt:310:9
 returns : tie.Need-returns
-returns c = fed-refused (asking (c .before .before .before .before .before)) (not-true _ (c .before .before .before .before .if1 .taken)) (c .before .before .settle .ensures)
-
--- src/slot.rt:466:5
-add-piece-requires : tie.Need-add-piece-requires
-add-piece-requires c κs =
-    let a = asking (c .before .before .before) in
-    let e = not-false _ (c .before .before .if1 .left) in
-    let f = few a e in
-    let r = a .ready .body in
-    let b = a .ready .bytes in
-    (omega arith, omega arith, a .short)
-
--- src/slot.rt:467:5
-finish-requires : tie.Need-finish-requires
-finish-requires c κs =
+returns c =
     let u5 = c .before .before .before .before .before in
     let u10 = u5 .before .before .before .before .before in
-    ready-grown (asking (u10 .before .before .before .before)) (not-false _ (u10 .before .before .before .if1 .left)) (u10 .add-piece .ensures .0) (u10 .add-piece .ensures .1)
+    let u15 = u10 .before .before .before .before .before in
+    header-no (reaching (u15 .before .before .before)) (u5 .before .before .take-header .ensures) (c .before .e .given .1)
 
--- src/slot.rt:435:1
+enum-told : tie.Need-enum-told
+enum-told c = search needs
+
+-- src/slot.rt:312:9
+take-count-requires : tie.Need-take-count-requires
+take-count-requires c κs =
+    let u5 = c .before .before .before .before .before in
+    let u10 = u5 .before .before .before .before .before in
+    let u15 = u10 .before .before .before .before .before in
+    ready-header (reaching (u15 .before .before .before)) (u5 .before .before .take-header .ensures) .nine
+
+-- src/slot.rt:313:9
 same-length-3 : tie.Need-same-length-3
 same-length-3 c = search needs
 
--- src/slot.rt:435:1
+-- src/slot.rt:313:9
 same-length-4 : tie.Need-same-length-4
 same-length-4 c = search needs
 
--- src/slot.rt:435:1
-same-length-5 : tie.Need-same-length-5
-same-length-5 c = search needs
-
--- src/slot.rt:435:1
-same-length-6 : tie.Need-same-length-6
-same-length-6 c = search needs
-
--- src/slot.rt:435:1
-same-length-7 : tie.Need-same-length-7
-same-length-7 c = search needs
-
--- src/slot.rt:435:1
-same-length-8 : tie.Need-same-length-8
-same-length-8 c = search needs
-
--- src/slot.rt:435:1
+-- src/slot.rt:313:9
 returns-2 : tie.Need-returns-2
 returns-2 c =
     let u5 = c .before .before .before .before .before in
     let u10 = u5 .before .before .before .before .before in
     let u15 = u10 .before .before .before .before .before in
     let u20 = u15 .before .before .before .before .before in
-    fed-passed (asking (u20 .before)) (not-false _ (u20 .if1 .left)) (u15 .before .before .add-piece .ensures .0) (u15 .before .before .add-piece .ensures .1) (u5 .before .finish .ensures)
+    count-no (reaching (u20 .before .before)) (u10 .before .take-header .ensures) (c .before .before .before .before .before .enum-told .given .1) (c .before .before .before .take-count .ensures) (not-true _ (c .if1 .taken))
+
+-- src/slot.rt:315:27
+add-piece-requires : tie.Need-add-piece-requires
+add-piece-requires c κs =
+    let u5 = c .before .before .before .before .before in
+    let u10 = u5 .before .before .before .before .before in
+    let u15 = u10 .before .before .before .before .before in
+    let u20 = u15 .before .before .before .before .before in
+    let u25 = u20 .before .before .before .before .before in
+    let r = ready-count (reaching (u25)) (u10 .before .before .before .before .take-header .ensures) (u5 .before .before .before .enum-told .given .1) (c .before .before .before .before .before .before .take-count .ensures) in (r .nine, r .bytes, r .body, u25 .pre .1 .0)
+
+-- src/slot.rt:315:22
+enum-known-e-2 : tie.Need-enum-known-e-2
+enum-known-e-2 c = search needs
+
+-- src/slot.rt:316:9
+same-length-5 : tie.Need-same-length-5
+same-length-5 c = search needs
+
+-- src/slot.rt:316:9
+same-length-6 : tie.Need-same-length-6
+same-length-6 c = search needs
+
+-- src/slot.rt:316:9
+same-length-7 : tie.Need-same-length-7
+same-length-7 c = search needs
+
+-- src/slot.rt:316:9
+same-length-8 : tie.Need-same-length-8
+same-length-8 c = search needs
+
+-- src/slot.rt:316:9
+returns-3 : tie.Need-returns-3
+returns-3 c =
+    let u5 = c .before .before .before .before .before in
+    let u10 = u5 .before .before .before .before .before in
+    let u15 = u10 .before .before .before .before .before in
+    let u20 = u15 .before .before .before .before .before in
+    let u25 = u20 .before .before .before .before .before in
+    let u30 = u25 .before .before .before .before .before in
+    let u35 = u30 .before .before .before .before .before in
+    piece-no (reaching (u35)) (u20 .before .before .before .before .take-header .ensures) (u15 .before .before .before .enum-told .given .1) (u15 .before .take-count .ensures) (not-false _ (u10 .before .before .before .if1 .left)) (u5 .before .before .before .before .add-piece .ensures) (c .before .e2 .given .1)
+
+enum-told-2 : tie.Need-enum-told-2
+enum-told-2 c = search needs
+
+-- src/slot.rt:318:5
+finish-requires : tie.Need-finish-requires
+finish-requires c κs =
+    let u5 = c .before .before .before .before .before in
+    let u10 = u5 .before .before .before .before .before in
+    let u15 = u10 .before .before .before .before .before in
+    let u20 = u15 .before .before .before .before .before in
+    let u25 = u20 .before .before .before .before .before in
+    let u30 = u25 .before .before .before .before .before in
+    let u35 = u30 .before .before .before .before .before in
+    let u40 = u35 .before .before .before .before .before in
+    ready-piece (reaching (u40)) (u25 .before .before .before .before .take-header .ensures) (u20 .before .before .before .enum-told .given .1) (u20 .before .take-count .ensures) (not-false _ (u15 .before .before .before .if1 .left)) (u10 .before .before .before .before .add-piece .ensures) (c .before .before .before .before .before .before .enum-told2 .given .1)
+
+-- src/slot.rt:292:1
+same-length-9 : tie.Need-same-length-9
+same-length-9 c = search needs
+
+-- src/slot.rt:292:1
+same-length-10 : tie.Need-same-length-10
+same-length-10 c = search needs
+
+-- src/slot.rt:292:1
+same-length-11 : tie.Need-same-length-11
+same-length-11 c = search needs
+
+-- src/slot.rt:292:1
+same-length-12 : tie.Need-same-length-12
+same-length-12 c = search needs
+
+-- src/slot.rt:292:1
+same-length-13 : tie.Need-same-length-13
+same-length-13 c = search needs
+
+-- src/slot.rt:292:1
+same-length-14 : tie.Need-same-length-14
+same-length-14 c = search needs
+
+-- src/slot.rt:292:1
+returns-4 : tie.Need-returns-4
+returns-4 c =
+    let u5 = c .before .before .before .before .before in
+    let u10 = u5 .before .before .before .before .before in
+    let u15 = u10 .before .before .before .before .before in
+    let u20 = u15 .before .before .before .before .before in
+    let u25 = u20 .before .before .before .before .before in
+    let u30 = u25 .before .before .before .before .before in
+    let u35 = u30 .before .before .before .before .before in
+    let u40 = u35 .before .before .before .before .before in
+    let u45 = u40 .before .before .before .before .before in
+    all-passed (reaching (u45 .before .before)) (u35 .before .take-header .ensures) (u30 .enum-told .given .1) (u25 .before .before .before .take-count .ensures) (not-false _ (u25 .if1 .left)) (u20 .before .add-piece .ensures) (u10 .before .before .before .enum-told2 .given .1)
+    (c .before .before .before .before .before .before .finish .ensures)
 
 pub feed-sound-spec : {M : Type 1} → statement M
 feed-sound-spec =
     tie.close
     (tie.spec
-    ask-requires
-    grow-requires
-    keep-header-requires
-    settle-requires
+    take-header-requires
+    enum-known-e
     same-length
     same-length-2
     returns
-    add-piece-requires
-    finish-requires
+    enum-told
+    take-count-requires
     same-length-3
     same-length-4
+    returns-2
+    add-piece-requires
+    enum-known-e-2
     same-length-5
     same-length-6
     same-length-7
     same-length-8
-    returns-2)
+    returns-3
+    enum-told-2
+    finish-requires
+    same-length-9
+    same-length-10
+    same-length-11
+    same-length-12
+    same-length-13
+    same-length-14
+    returns-4)
