@@ -18,7 +18,7 @@ use Rattle.pe_slot.specs.Slot.{judge}
 use Rattle.pe_slot.specs.Memory.{slotOf, wordsOf, contents, endsAt, isEnd, isSound}
 use Rattle.pe_slot.specs.Records.{Scanned}
 use Rattle.pe_slot.specs.Feed.{After, after, touched, placed, isShaped, feedSlot}
-use Rattle.pe_slot.specs.Steps.{isBounded, Ready}
+use Rattle.pe_slot.specs.Steps.{isBounded}
 
 -- the lengths of a slot's parts are in range
 pub record Shaped (words index header arena out-header out-body : List ℕ) : Type 0 where

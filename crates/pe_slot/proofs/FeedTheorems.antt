@@ -4,9 +4,9 @@ use Prim.Native.Nat.{ℕ, _+_, _<_, _≤_}
 use mathlib.Core.Bool.{Bool, true, false, cond, not, _&&_, _||_}
 use mathlib.Core.List.{List, []}
 use mathlib.Core.Option.{Option, none, some}
-use mathlib.Core.Path.{_≡_, refl, sym, ap, _∙_, subst}
+use mathlib.Core.Path.{_≡_, refl, ap, _∙_}
 use native.Mathlib.Omega.{arith}
-use borrow.Author.Tests.{le-leb, leb-true, ltb-true, eq-eqb, eqb-true}
+use borrow.Author.Tests.{le-leb, leb-true, eq-eqb, eqb-true}
 use lib.Dec.{leb, eqb}
 use lib.ListN.{length, take, set, length-set}
 use Rattle.seven_bit.proofs.ReplyLaws.{and-told}
@@ -15,8 +15,8 @@ use Rattle.seven_bit.specs.Reply.{refused}
 use Rattle.seven_bit.proofs.PartLaws.{length-splice}
 use Rattle.pe_frame.specs.Chunk.{Chunk}
 use Rattle.pe_slot.specs.declared.slot.TxSlot.{TxSlot}
-use Rattle.pe_slot.specs.Slot.{Slot, Verdict, isWhole, afterChunk, slotAfter, judge}
-use Rattle.pe_slot.specs.Memory.{slotOf, wordsOf, packed, piecesOf, contents, endsAt, isEnd, isSound}
+use Rattle.pe_slot.specs.Slot.{Verdict, slotAfter, judge}
+use Rattle.pe_slot.specs.Memory.{slotOf, wordsOf, piecesOf, contents, endsAt, isEnd, isSound}
 use Rattle.pe_slot.specs.Feed.{After, after, touched, grown, closed, placed, isShaped, feedSlot}
 use Rattle.pe_slot.proofs.SlotMemory.{ends-grown}
 use Rattle.pe_slot.proofs.JudgeLaws.{Fitting, judge-fitting}

@@ -44,7 +44,7 @@ unfolding sameHeader
 same-known true h new = refl
 same-known false h new = refl
 
-never : {A : Type 0} → false ≡ true → A
+pub never : {A : Type 0} → false ≡ true → A
 never e = absurd (let z : _≡_ {A = ℕ} 0 1 = cc in omega arith)
 
 -- a header is stored only where it fits, and a piece added where it has room

@@ -12,5 +12,7 @@ pub mod SlotMemory
 pub mod SlotWords
 pub mod JudgeLaws
 pub mod FeedLaws
+pub mod StepLaws
+pub mod StepEnds
 pub mod FeedAsked
 pub mod FeedTheorems

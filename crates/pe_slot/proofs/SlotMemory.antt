@@ -1,6 +1,6 @@
 -- The laws of a slot's memory: records that lie end to end, the pieces that they name, and one record more.
 -- Assumes nothing.
-use Prim.Native.Nat.{ℕ, _+_, _-_, _<_, _≤_}
+use Prim.Native.Nat.{ℕ, _+_, _<_, _≤_}
 use mathlib.Core.Bool.{Bool, true, cond}
 use mathlib.Core.List.{List, [], _∷_, _++_, map-append}
 use mathlib.Core.Option.{some}
@@ -9,8 +9,8 @@ use native.Mathlib.Numerals.{add-one}
 use native.Mathlib.Omega.{arith}
 use borrow.Author.Tests.{eq-eqb}
 use lib.Dec.{eqb}
-use lib.ListN.{length, take, drop, set, length-drop, length-map, take-append-drop}
-use lib.Seq.{take-suc-set, length-take-le, take-append-le, drop-append-le}
+use lib.ListN.{length, take, drop, set, length-map, take-append-drop}
+use lib.Seq.{take-suc-set, length-take-le}
 use Rattle.seven_bit.specs.Parts.{part, splice}
 use Rattle.seven_bit.proofs.PartLaws.{part-splice, part-front}
 use Rattle.pe_slot.specs.Slot.{Piece, held}

@@ -39,7 +39,7 @@ pub record Ready (words index header arena out-header out-body : List ℕ) : Typ
 abbrev pub cleared : List ℕ → List ℕ
 cleared words = wordsOf (closed (slotOf words))
 
--- Frame 1's header: 4 where it is too long; it is stored where none is known (words 5 and 6), and else the same, or 8.
+-- Chunk 1's header: 4 where it is too long; it is stored where none is known (words 5 and 6), and else the same, or 8.
 pub record HeaderTaken : Type 0 where
   pub asked : Asked
   pub words : List ℕ

@@ -1,6 +1,4 @@
 use mathlib.Core.Path.{_∙_}
-use lib.ListN.{length-set}
-use native.Mathlib.Omega.{arith}
 use borrow.Author.Tests.{eq-eqb, ne-eqb, lt-ltb, le-ltb, le-leb, lt-leb}
 use denote.Ref.{now}
 use Rattle.pe_slot.specs.Memory.{slotOf}

@@ -3,7 +3,7 @@ use borrow.Author.Tests.{not-true, not-false}
 use denote.Ref.{now}
 use Rattle.pe_frame.specs.Chunk.{Chunk}
 use Rattle.pe_slot.specs.Memory.{slotOf}
-use Rattle.pe_slot.proofs.FeedLaws.{Reaching, header-no, ready-header, count-no, ready-count, piece-no, ready-piece, all-passed}
+use Rattle.pe_slot.proofs.StepEnds.{Reaching, header-no, ready-header, count-no, ready-count, piece-no, ready-piece, all-passed}
 use borrow.Author.Needs.{needs}
 use Rattle.pe_slot.proofs.slot.feed_sound.Statement.{statement}
 use Rattle.pe_slot.proofs.slot.feed_sound.Tie as tie

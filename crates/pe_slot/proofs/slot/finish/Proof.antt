@@ -2,7 +2,6 @@ use mathlib.Core.Path.{sym, refl}
 use native.Mathlib.Omega.{arith}
 use lib.Seq.{length-take-le}
 use denote.Ref.{now}
-use Rattle.pe_slot.specs.declared.records.Joined.{Joined}
 use Rattle.pe_slot.specs.Memory.{slotOf}
 use Rattle.pe_slot.proofs.OrderJoinLaws.{join-short}
 use Rattle.pe_slot.proofs.FeedLaws.{finish-headless, finish-countless, finish-missing, finish-whole}

@@ -1,0 +1,131 @@
+-- The laws of the steps one after the other: they ask a slot's questions in their order.
+-- Assumes nothing.
+use Prim.Native.Nat.{ℕ, _+_, _<_, _≤_}
+use mathlib.Core.Bool.{Bool, true, false, cond, not, _&&_, _||_}
+use mathlib.Core.List.{List}
+use mathlib.Core.Option.{some}
+use mathlib.Core.Path.{_≡_, refl}
+use borrow.Author.Tests.{leb-true, ltb-true}
+use lib.Dec.{leb, ltb, eqb}
+use lib.ListN.{length, take}
+use Rattle.seven_bit.specs.Reply.{refused}
+use Rattle.pe_wire.specs.Errors.{peRefused}
+use Rattle.pe_wire.specs.declared.error.PeError.{PeError}
+use Rattle.pe_frame.specs.Chunk.{Chunk}
+use Rattle.pe_slot.specs.declared.slot.Asked.{Asked}
+use Rattle.pe_slot.specs.declared.slot.TxSlot.{TxSlot}
+use Rattle.pe_slot.specs.Slot.{Slot, Verdict, storing, taking, isWhole, eqList, afterChunk, passed}
+use Rattle.pe_slot.specs.Memory.{slotOf, wordsOf, contents, endsAt}
+use Rattle.pe_slot.specs.Feed.{After, after, grown, closed, placed}
+use Rattle.pe_slot.specs.Steps.{HeaderTaken, takeHeader, CountTaken, takeCount, PieceAdded, addPiece, finishOf}
+use Rattle.pe_slot.proofs.JudgeLaws.{pieceBy, countBy, askedAs, never}
+use Rattle.pe_slot.proofs.FeedLaws.{leaving, newHeader, newIndex, newArena, contents-grown}
+
+-- a no ends the feed with memory as it then is
+abbrev orNo : Asked → (PeError → After) → After → After
+orNo Asked.Yes ended more = more
+orNo (Asked.No e) ended more = ended e
+
+module _ (index header arena : List ℕ) (c : Chunk) (held : Bool) (out-header out-body : List ℕ) where
+  abbrev pub afterFinish : List ℕ → List ℕ → List ℕ → List ℕ → After
+  afterFinish w i h b =
+      let f = finishOf w (contents (slotOf w) i h b) out-header out-body in
+      after (f .answer) (f .words) i h b (f .out-header) (f .out-body)
+
+  abbrev pub afterPiece : PieceAdded → List ℕ → After
+  afterPiece a h =
+      orNo (a .asked) (λ e. after (peRefused e) (a .words) (a .index) h (a .arena) out-header out-body) (afterFinish (a .words) (a .index) h (a .arena))
+
+  abbrev pub afterCount : CountTaken → List ℕ → After
+  afterCount k h =
+      cond (k .agrees) (afterPiece (addPiece (k .words) index arena (c .chunk-num) (c .property) held) h)
+      (after (refused 8 0) (k .words) index h arena out-header out-body)
+
+  abbrev pub afterHeader : HeaderTaken → After
+  afterHeader k =
+      orNo (k .asked) (λ e. after (peRefused e) (k .words) index (k .header) arena out-header out-body)
+      (afterCount (takeCount (k .words) (c .num-chunks)) (k .header))
+
+  module _ (t : TxSlot) (laid : endsAt 0 (take (t .«index_len») index) ≡ some (t .«property_bytes»)) (named : c .chunk-num < 65536) (short : length (c .property) < 65536)
+      (stores : Bool) (fits : stores ≡ true → length (c .header) ≤ length header) where
+    either : (b : Bool) (g : TxSlot) → cond b (wordsOf (closed g)) (wordsOf g) ≡ wordsOf (cond b (closed g) g)
+    either true g = refl
+    either false g = refl
+
+    told-as : (takes : Bool) (s : Slot)
+        → (let f = finishOf (wordsOf (grown t c (leaving stores takes true))) s out-header out-body in
+        after (f .answer) (f .words) (newIndex t index header arena c true) (newHeader t index header arena c stores) (newArena t index header arena c true) (f .out-header) (f .out-body))
+        ≡ placed t index header arena c (storing stores (taking takes (passed s))) out-header out-body
+    unfolding placed finishOf passed
+    told-as takes s = rw (either (isWhole (s .header) (s .count) (s .pieces)) (grown t c (leaving stores takes true)))
+
+    -- the last step, from a slot with its piece
+    whole-or-waits : (takes : Bool) → t .«index_len» < length index → t .«property_bytes» + length (c .property) ≤ length arena
+        → afterFinish (wordsOf (grown t c (leaving stores takes true))) (newIndex t index header arena c true) (newHeader t index header arena c stores) (newArena t index header arena c true)
+        ≡ placed t index header arena c (storing stores (taking takes (passed (afterChunk (contents t index header arena) c stores takes true)))) out-header out-body
+    whole-or-waits takes few room =
+        rw (contents-grown t index header arena c stores takes true fits (λ e. few) (λ e. room) laid named short)
+        (told-as takes (afterChunk (contents t index header arena) c stores takes true))
+
+    -- the piece's questions
+    abbrev piece : Bool → Verdict
+    piece takes =
+        pieceBy (eqb (c .chunk-num) 0) held (ltb (t .«index_len») (length index)) (leb (t .«property_bytes» + length (c .property)) (length arena))
+        (afterChunk (contents t index header arena) c stores takes true)
+
+    abbrev AsPiece : Bool → Type 0
+    AsPiece takes =
+        afterPiece (addPiece (wordsOf (grown t c (leaving stores takes false))) index arena (c .chunk-num) (c .property) held) (newHeader t index header arena c stores)
+        ≡ placed t index header arena c (storing stores (taking takes (piece takes))) out-header out-body
+
+    as-piece : (takes : Bool) → AsPiece takes
+    unfolding addPiece placed
+    as-piece takes =
+        go (eqb (c .chunk-num) 0) refl held refl (ltb (t .«index_len») (length index)) refl (leb (t .«property_bytes» + length (c .property)) (length arena)) refl
+      where
+        go : (z : Bool) → eqb (c .chunk-num) 0 ≡ z → (h : Bool) → held ≡ h → (f : Bool) → ltb (t .«index_len») (length index) ≡ f
+            → (r : Bool) → leb (t .«property_bytes» + length (c .property)) (length arena) ≡ r → AsPiece takes
+        go true z h eh f ef r er = rw z
+        go false z true eh f ef r er = rw (z, eh)
+        go false z false eh false ef r er = rw (z, eh, ef)
+        go false z false eh true ef false er = rw (z, eh, ef, er)
+        go false z false eh true ef true er = rw (z, eh, ef, er) (unfold placed in (whole-or-waits takes (ltb-true _ _ ef) (leb-true _ _ er)))
+
+    -- the count's before them
+    abbrev count : Verdict
+    count =
+        countBy (eqb (c .num-chunks) 0 || eqb (t .«num_chunks») 0 || eqb (t .«num_chunks») (c .num-chunks)) (not (eqb (c .num-chunks) 0) && eqb (t .«num_chunks») 0)
+        (piece (not (eqb (c .num-chunks) 0) && eqb (t .«num_chunks») 0))
+
+    abbrev AsCount : Type 0
+    AsCount =
+        afterCount (takeCount (wordsOf (grown t c (leaving stores false false))) (c .num-chunks)) (newHeader t index header arena c stores)
+        ≡ placed t index header arena c (storing stores count) out-header out-body
+
+    as-count : AsCount
+    unfolding takeCount placed
+    as-count = go (eqb (c .num-chunks) 0) refl (eqb (t .«num_chunks») 0) refl (eqb (t .«num_chunks») (c .num-chunks)) refl
+      where
+        go : (n : Bool) → eqb (c .num-chunks) 0 ≡ n → (k : Bool) → eqb (t .«num_chunks») 0 ≡ k → (s : Bool) → eqb (t .«num_chunks») (c .num-chunks) ≡ s → AsCount
+        go true n k ek s es = rw n (unfold placed in (as-piece false))
+        go false n true ek s es = rw (n, ek) (unfold placed in (as-piece true))
+        go false n false ek true es = rw (n, ek, es) (unfold placed in (as-piece false))
+        go false n false ek false es = rw (n, ek, es)
+
+  -- the header's before those: all are the slot's questions, in their order
+  module _ (t : TxSlot) (laid : endsAt 0 (take (t .«index_len») index) ≡ some (t .«property_bytes»)) (named : c .chunk-num < 65536) (short : length (c .property) < 65536) where
+    abbrev AsHeader : Type 0
+    AsHeader =
+        afterHeader (takeHeader (wordsOf t) header (c .chunk-num) (c .header)) ≡ placed t index header arena c (askedAs t index header arena c held) out-header out-body
+
+    pub as-header : AsHeader
+    unfolding takeHeader placed
+    as-header = go (eqb (c .chunk-num) 1) refl (leb (length (c .header)) (length header)) refl (eqb (t .«header_set») 0) refl (eqList (take (t .«header_len») header) (c .header)) refl
+      where
+        go : (o : Bool) → eqb (c .chunk-num) 1 ≡ o → (f : Bool) → leb (length (c .header)) (length header) ≡ f → (u : Bool) → eqb (t .«header_set») 0 ≡ u
+            → (s : Bool) → eqList (take (t .«header_len») header) (c .header) ≡ s → AsHeader
+        go false o f ef u eu s es = rw o (unfold placed in (as-count t laid named short false never))
+        go true o false ef u eu s es = rw (o, ef)
+        go true o true ef true eu s es = rw (o, ef, eu) (unfold placed in (as-count t laid named short true (λ e. leb-true _ _ ef)))
+        go true o true ef false eu true es = rw (o, ef, eu, es) (unfold placed in (as-count t laid named short false never))
+        go true o true ef false eu false es = rw (o, ef, eu, es)
