@@ -58,6 +58,7 @@ opened a = go (eqb a 0) refl
     go true e = refl
     go false e = e
 
+-- memory follows a verdict that fits, and is sound then
 module _ (t : TxSlot) (index header arena : List ℕ) (c : Chunk) (out-header out-body : List ℕ) (s : Sound (length header) (length arena) (length index) t index)
     (short : length (c .property) ≤ 16383) (named : c .chunk-num < 65536) where
   module _ (v : Verdict) (f : Fitting t index header arena c v) where
@@ -109,7 +110,7 @@ module _ (t : TxSlot) (index header arena : List ℕ) (c : Chunk) (out-header ou
           (sound-open (length header) (length arena) (length index) (grown t c v) (newIndex t index header arena c (v .adds))
           (record { head = head-within (v .stores) (f .fits); held = p .held; body = p .body; ends = p .ends }) active))
 
--- so it is of what the questions say
+-- such as the one that the questions have
 module _ (t : TxSlot) (index header arena : List ℕ) (c : Chunk) (out-header out-body : List ℕ) (s : Sound (length header) (length arena) (length index) t index)
     (short : length (c .property) ≤ 16383) (named : c .chunk-num < 65536) where
   abbrev said : Verdict

@@ -21,7 +21,7 @@ use Rattle.pe_slot.specs.Steps.{HeaderTaken, takeHeader, CountTaken, tak
 use Rattle.pe_slot.proofs.JudgeLaws.{pieceBy, countBy, askedAs, never}
 use Rattle.pe_slot.proofs.FeedLaws.{leaving, newHeader, newIndex, newArena, contents-grown}
 
--- a no ends the feed with memory as it then is
+-- a no ends the feed, with memory as it is then
 abbrev orNo : Asked → (PeError → After) → After → After
 orNo Asked.Yes ended more = more
 orNo (Asked.No e) ended more = ended e
@@ -46,12 +46,14 @@ module _ (index header arena : List ℕ) (c : Chunk) (held : Bool) (out-header o
       orNo (k .asked) (λ e. after (peRefused e) (k .words) index (k .header) arena out-header out-body)
       (afterCount (takeCount (k .words) (c .num-chunks)) (k .header))
 
+  -- from the last step to the first; stores: whether the header was stored
   module _ (t : TxSlot) (laid : endsAt 0 (take (t .«index_len») index) ≡ some (t .«property_bytes»)) (named : c .chunk-num < 65536) (short : length (c .property) < 65536)
       (stores : Bool) (fits : stores ≡ true → length (c .header) ≤ length header) where
     either : (b : Bool) (g : TxSlot) → cond b (wordsOf (closed g)) (wordsOf g) ≡ wordsOf (cond b (closed g) g)
     either true g = refl
     either false g = refl
 
+    -- what is told of a slot with its piece
     told-as : (takes : Bool) (s : Slot)
         → (let f = finishOf (wordsOf (grown t c (leaving stores takes true))) s out-header out-body in
         after (f .answer) (f .words) (newIndex t index header arena c true) (newHeader t index header arena c stores) (newArena t index header arena c true) (f .out-header) (f .out-body))

@@ -275,6 +275,7 @@ fn finish(
         return Fed::Waiting;
     }
     let len = words[INDEX_LEN];
+    // fewer records than the count can't hold every number
     if len < count {
         return Fed::Waiting;
     }

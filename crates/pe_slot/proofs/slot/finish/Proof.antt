@@ -36,7 +36,7 @@ returns-2 c =
 slice-read-len : tie.Need-slice-read-len
 slice-read-len c = search needs
 
--- src/slot.rt:279:9
+-- src/slot.rt:280:9
 returns-3 : tie.Need-returns-3
 returns-3 c =
     let u5 = c .before .before .before .before .before in
@@ -46,11 +46,11 @@ returns-3 c =
     finish-missing (now (a .words)) (now (a .index)) (now (a .header)) (now (a .arena)) (now (a .out-header)) (now (a .out-body))
     (c .before .before .before .before .if1 .left) (c .before .before .if2 .left) (join-short (t .«num_chunks») (now (a .index)) (now (a .arena)) (now (a .out-body)) (t .«index_len») (u10 .before .before .pre .held) (c .if3 .taken)) refl
 
--- src/slot.rt:281:15
+-- src/slot.rt:282:15
 slice-read-end : tie.Need-slice-read-end
 slice-read-end c = search needs
 
--- src/slot.rt:282:34
+-- src/slot.rt:283:34
 join-requires : tie.Need-join-requires
 join-requires c κs =
     let u5 = c .before .before .before .before .before in
@@ -59,19 +59,19 @@ join-requires c κs =
     let k = length-take-le (slotOf (now (s .args .words)) .«index_len») (now (s .args .index)) (s .pre .held) in
     (s .pre .held, record { few = (let p = s .pre .records in let q = s .pre .held in omega arith); ends = s .pre .ends; bytes = s .pre .body; room = (let p = s .pre .body in let q = s .pre .body-room in omega arith) })
 
--- src/slot.rt:282:22
+-- src/slot.rt:283:22
 enum-known-body-len : tie.Need-enum-known-body-len
 enum-known-body-len c = search needs
 
--- src/slot.rt:283:9
+-- src/slot.rt:284:9
 enum-told : tie.Need-enum-told
 enum-told c = search needs
 
--- src/slot.rt:283:9
+-- src/slot.rt:284:9
 same-length : tie.Need-same-length
 same-length c = search needs
 
--- src/slot.rt:283:9
+-- src/slot.rt:284:9
 returns-4 : tie.Need-returns-4
 returns-4 c =
     let u5 = c .before .before .before .before .before in
@@ -81,11 +81,11 @@ returns-4 c =
     finish-missing (now (a .words)) (now (a .index)) (now (a .header)) (now (a .arena)) (now (a .out-header)) (now (a .out-body))
     (u10 .before .if1 .left) (u5 .before .before .before .before .if2 .left) (c .before .before .before .before .join .ensures) (c .enum-told .given .1)
 
--- src/slot.rt:285:22
+-- src/slot.rt:286:22
 slice-read-header-len : tie.Need-slice-read-header-len
 slice-read-header-len c = search needs
 
--- src/slot.rt:286:39
+-- src/slot.rt:287:39
 slice-aggregate-copy-in : tie.Need-slice-aggregate-copy-in
 slice-aggregate-copy-in c =
     let u5 = c .before .before .before .before .before in
@@ -94,11 +94,11 @@ slice-aggregate-copy-in c =
     let u20 = u15 .before .before .before .before .before in
     sym (length-take-le _ _ (u20 .before .before .before .pre .head))
 
--- src/slot.rt:286:5
+-- src/slot.rt:287:5
 copy-in-requires : tie.Need-copy-in-requires
 copy-in-requires c κs = search needs
 
--- src/slot.rt:287:5
+-- src/slot.rt:288:5
 clear-requires : tie.Need-clear-requires
 clear-requires c κs =
     let u5 = c .before .before .before .before .before in
