@@ -8,7 +8,7 @@ C99 = $(CC) -std=c99 -O2 -Wall -Wextra -Wpedantic -Werror -Iinclude
 SANITIZED = $(C99) -g -fsanitize=address,undefined -fno-sanitize-recover=all
 C_TESTS := $(wildcard c/test_*.c c/model_*.c) c/check.c c/lent.c
 C_HEADERS := $(wildcard c/*.h) include/midici_pe.h
-HUB_CRATES := $(shell sed -n 's/^hub:/hub/p' crates.txt)
+HUB_CRATES := $(shell sed -n 's/^hub_message:/hub_message/p' crates.txt)
 HUB_SOURCES := $(shell find $(HUB_CRATES:%=crates/%) -name '*.rt' -o -name '*.antt')
 
 help:
@@ -56,6 +56,8 @@ $(LIBRARY): $(HUB_SOURCES) crates.txt
 	@mkdir -p target
 	@echo "Building $@: this takes some minutes where nothing is proved yet."
 	@rt staticlib hub >target/staticlib.log 2>&1 || { tail -n 40 target/staticlib.log; exit 1; }
+	@rt staticlib hub_message >target/staticlib.log 2>&1 || { rm -f $@; tail -n 40 target/staticlib.log; exit 1; }
+	@cd target/staticlib && $(AR) x libhub_message.a hub_message.o && $(AR) q libhub.a hub_message.o 2>/dev/null || { rm -f libhub.a; exit 1; }
 
 install: lib
 	install -d "$(DESTDIR)$(PREFIX)/include" "$(DESTDIR)$(PREFIX)/lib/pkgconfig"

@@ -1,7 +1,7 @@
 #!/usr/bin/env python3
 """signatures.py: prints a C file that is an error wherever include/midici_pe.h and the Rattle source disagree.
 
-It reads the exports and their structs from crates/hub/src, the refusals' numbers and the sizes from the crates below it.
+It reads the exports and their structs from crates/hub and hub_message, the refusals' numbers and the sizes from the crates below it.
 For each export it prints a pointer of the type that the source says, set to the function that the header declares; for
 each struct, refusal and size an assertion. What a compiler does not see is compared here: the names of parameters, and
 that neither side has a function or a refusal that the other lacks."""
@@ -92,7 +92,7 @@ def print_sizes():
     check('MIDICI_PE_CHUNK_LEN + MIDICI_PE_CI_HEADER_LEN == MIDICI_PE_MESSAGE_LEN')
 
 
-hub = '\n'.join(source(path.relative_to(ROOT / 'crates')) for path in sorted((ROOT / 'crates/hub/src').glob('*.rt')))
+hub = '\n'.join(source(path.relative_to(ROOT / 'crates')) for path in sorted((ROOT / 'crates').glob('hub*/src/*.rt')))
 header = ' '.join(re.sub(r'/\*.*?\*/', '', HEADER.read_text(encoding='utf-8'), flags=re.S).split())
 functions = exports(hub)
 
@@ -105,7 +105,7 @@ for function, (result, parameters) in functions.items():
         wrong(f'{HEADER.name} lacks\n{result} {function}({listed});')
 for function in re.findall(r'\b(\w+)\([^()]*\);', header):
     if function not in functions:
-        wrong(f'{HEADER.name} declares {function}, which crates/hub does not export')
+        wrong(f'{HEADER.name} declares {function}, which neither crates/hub nor hub_message exports')
 print_structs(hub)
 refusals = print_refusals('pe_wire/src/error.rt', 'PeError', 'MIDICI_PE_')
 refusals += print_refusals('midici_core/src/error.rt', 'CiError', 'MIDICI_PE_CI_')

@@ -1,4 +1,4 @@
-// The reassembler's calls. A shape is four numbers, and the memory of a table is lent with each call.
+// The reassembler's calls, but for the whole-message entry (crate hub_message). A shape is four numbers, and the memory of a table is lent with each call.
 use crate::answer::Answer;
 use crate::answer::FedAnswer;
 use crate::answer::StatsAnswer;
@@ -14,12 +14,12 @@ use pe_reassembler::poll;
 use pe_reassembler::shape::Shape;
 ghost use mathlib.Core.Path.{_≡_};
 ghost use Rattle.pe_reassembler.specs.Calls.{newCall, cancelCall, dropCall, statsCall, reservedCall};
-ghost use Rattle.pe_reassembler.specs.Feed.{memory, feedCall, messageCall};
+ghost use Rattle.pe_reassembler.specs.Feed.{memory, feedCall};
 ghost use Rattle.pe_reassembler.specs.Poll.{pollCall};
 ghost use Rattle.hub.specs.Answers.{answerOf, statsAnswerOf, left};
 ghost use Rattle.hub.specs.Table.{shapeOf, madeOf, cancelledOf, droppedOf, fedOf, polledOf, OpenListed};
 
-fn shape_of(
+pub fn shape_of(
     max_peers: usize,
     header_bytes: usize,
     tx_bytes: usize,
@@ -81,38 +81,6 @@ pub extern "C" fn midici_pe_feed(
         arenas,
         peer,
         raw_chunk,
-        now_ms,
-        out_header,
-        out_body,
-    ))
-}
-
-// Feeds the chunk of a whole CI message under its source.
-#[no_mangle]
-pub extern "C" fn midici_pe_feed_message(
-    max_peers: usize,
-    header_bytes: usize,
-    tx_bytes: usize,
-    fragment_records: usize,
-    numbers: &mut [u64],
-    index: &mut [u64],
-    headers: &mut [u8],
-    arenas: &mut [u8],
-    body: &[u8],
-    now_ms: u64,
-    out_header: &mut [u8],
-    out_body: &mut [u8],
-) -> FedAnswer
-    ensures { λ r. ⌜ left r (memory (now (numbers .exit)) (now (index .exit)) (now (headers .exit)) (now (arenas .exit)) (now («out_header» .exit)) (now («out_body» .exit))) ≡ fedOf (messageCall (shapeOf «max_peers» «header_bytes» «tx_bytes» «fragment_records») (memory (now (numbers .entry)) (now (index .entry)) (now (headers .entry)) (now (arenas .entry)) (now («out_header» .entry)) (now («out_body» .entry))) (now (body .entry)) «now_ms») ⌝ }
-{
-    let shape = shape_of(max_peers, header_bytes, tx_bytes, fragment_records);
-    fed(feed::feed_message(
-        shape,
-        numbers,
-        index,
-        headers,
-        arenas,
-        body,
         now_ms,
         out_header,
         out_body,

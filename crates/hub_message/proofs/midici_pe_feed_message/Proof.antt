@@ -1,9 +1,9 @@
 use borrow.Author.Needs.{needs}
-use Rattle.hub.proofs.table.midici_pe_feed_message.Statement.{statement}
-use Rattle.hub.proofs.table.midici_pe_feed_message.Tie as tie
+use Rattle.hub_message.proofs.midici_pe_feed_message.Statement.{statement}
+use Rattle.hub_message.proofs.midici_pe_feed_message.Tie as tie
 use mathlib.Core.Path.{sym, ap}
 use Rattle.hub.specs.Table.{fedOf}
 use Rattle.hub.proofs.AnswerLaws.{leaves}
 
 abbrev called : tie.After-fed → tie.After-feed-message
 called c = c .before .before .before .before .before .before .before .before .before .before .before .before .before
