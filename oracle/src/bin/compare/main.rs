@@ -80,7 +80,9 @@ fn run() -> Result<(), String> {
     compare_runs(seed, runs, &mut summary).map_err(differs)?;
     let exports: Vec<Export> = Op::ALL.iter().map(|(_, export)| *export).chain(What::EXPORTS).collect();
     println!("{}, no difference", summary.totals(&exports));
-    summary.check(&exports).map_err(|missing| format!("NOT ALL REFUSALS: {missing}"))?;
+    summary
+        .check(&exports)
+        .map_err(|missing| format!("NOT ALL REFUSALS: {missing} (the gate's 20000 cases and 10000 runs give all)"))?;
     println!("Each export gave every refusal that it can give; those of hub together all but {NONE_OF_HUB:?}.");
     Ok(())
 }
