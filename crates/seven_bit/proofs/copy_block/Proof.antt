@@ -1,18 +1,11 @@
-use mathlib.Core.Path.{_≡_}
-use Prim.Native.Nat.{ℕ, _+_, _-_, _*_, _≤_, _<_}
-use lib.ListN.{length}
-use native.Mathlib.Omega.{arith}
+use mathlib.Core.Path.{ap, _∙_}
+use Prim.Native.Nat.{ℕ, _+_}
 use borrow.Author.Needs.{needs}
 use mathlib.Core.List.{List}
-use mathlib.Core.Path.{ap, _∙_}
 use denote.Ref.{now}
 use Rattle.seven_bit.specs.Parts.{put}
 use Rattle.seven_bit.proofs.copy_block.Statement.{statement}
 use Rattle.seven_bit.proofs.copy_block.Tie as tie
-use Rattle.seven_bit.proofs.copy_block.Reads as reads
-use Rattle.seven_bit.proofs.copy_block.Lts as lts
-use Rattle.seven_bit.proofs.put_block.Reads as put-block-reads
-use Rattle.seven_bit.proofs.read_block.Reads as read-block-reads
 
 -- src/lib.rt:70:17
 read-block-requires : tie.Need-read-block-requires

@@ -1,18 +1,13 @@
-use mathlib.Core.Path.{_≡_}
-use Prim.Native.Nat.{ℕ, _+_, _-_, _*_, _≤_, _<_}
+use mathlib.Core.Path.{sym, _∙_}
+use Prim.Native.Nat.{_+_, _-_, _≤_}
 use lib.ListN.{length}
 use native.Mathlib.Omega.{arith}
 use borrow.Author.Needs.{needs}
-use mathlib.Core.Path.{sym, _∙_}
 use denote.Ref.{now}
 use Rattle.seven_bit.proofs.PartLaws.{fit-yes, fit-no}
 use Rattle.seven_bit.proofs.CopyLaws.{copied-all}
 use Rattle.seven_bit.proofs.copy_in.Statement.{statement}
 use Rattle.seven_bit.proofs.copy_in.Tie as tie
-use Rattle.seven_bit.proofs.copy_in.Reads as reads
-use Rattle.seven_bit.proofs.copy_in.Lts as lts
-use Rattle.seven_bit.proofs.copy_long.Reads as copy-long-reads
-use Rattle.seven_bit.proofs.copy_range.Reads as copy-range-reads
 
 -- src/lib.rt:26:9
 returns : tie.Need-returns

@@ -1,20 +1,14 @@
-use mathlib.Core.Path.{_≡_}
-use Prim.Native.Nat.{ℕ, _+_, _-_, _*_, _≤_, _<_}
+use mathlib.Core.Path.{refl, ap, _∙_}
+use Prim.Native.Nat.{ℕ, _+_, _-_, _*_, _/_, _%_}
 use lib.ListN.{length}
 use native.Mathlib.Omega.{arith}
 use borrow.Author.Needs.{needs}
 use mathlib.Core.List.{List}
-use mathlib.Core.Path.{refl, ap, _∙_}
-use Prim.Native.Nat.{_/_, _%_}
 use denote.Ref.{now}
 use Rattle.seven_bit.specs.Parts.{part, put}
 use Rattle.seven_bit.proofs.CopyLaws.{copied-long}
 use Rattle.seven_bit.proofs.copy_long.Statement.{statement}
 use Rattle.seven_bit.proofs.copy_long.Tie as tie
-use Rattle.seven_bit.proofs.copy_long.Reads as reads
-use Rattle.seven_bit.proofs.copy_long.Lts as lts
-use Rattle.seven_bit.proofs.copy_block.Reads as copy-block-reads
-use Rattle.seven_bit.proofs.copy_range.Reads as copy-range-reads
 
 -- src/lib.rt:45:17
 sub-start : tie.Need-sub-start
@@ -63,17 +57,19 @@ same-length c = search needs
 -- src/lib.rt:40:1
 returns : tie.Need-returns
 returns c =
-    let a = c .before .before .before .before .before .before .before .before .before .before .before .before .before .before .before .before .before .before .args in
+    let last = c .before .before in
+    let late = last .before .before .before .before in
+    let range = late .before .before .before .before in
+    let first = range .before .before .before .before in
+    let a = first .before .before .before .before .args in
     let n = length (now (a .src)) in
     let start = 16 - a .at % 16 in
     let end = start + (n - start) / 32 * 32 in
-    let block = c .before .before .before .before .before .before .before .before .before .before .before .before .before .before .copy-block .ensures in
-    let range = c .before .before .before .before .before .before .before .before .before .before .copy-range .ensures in
-    let block2 = c .before .before .before .before .before .before .copy-block2 .ensures in
-    c .before .before .copy-block3 .ensures
-    ∙ ap (λ (l : List ℕ). put l (a .at + (n - 16)) (part (n - 16) 16 (now (a .src)))) (block2
-    ∙ ap (λ (l : List ℕ). put l (a .at + (n - 32)) (part (n - 32) 16 (now (a .src)))) (range
-    ∙ ap (λ (l : List ℕ). put l (a .at + start) (part start (end - start) (now (a .src)))) block))
+    let copy : ℕ → ℕ → List ℕ → List ℕ = λ from k l. put l (a .at + from) (part from k (now (a .src))) in
+    last .copy-block3 .ensures
+    ∙ ap (copy (n - 16) 16) (late .copy-block2 .ensures)
+    ∙ ap (λ l. copy (n - 16) 16 (copy (n - 32) 16 l)) (range .copy-range .ensures)
+    ∙ ap (λ l. copy (n - 16) 16 (copy (n - 32) 16 (copy start (end - start) l))) (first .copy-block .ensures)
     ∙ copied-long (now (a .dst)) (a .at) (now (a .src)) (search needs) start end n refl (search needs) (omega arith) (omega arith) (omega arith) (omega arith)
 
 pub copy-long-spec : {M : Type 1} → statement M

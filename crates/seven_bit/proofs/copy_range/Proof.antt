@@ -1,18 +1,14 @@
-use mathlib.Core.Path.{_≡_}
-use Prim.Native.Nat.{ℕ, _+_, _-_, _*_, _≤_, _<_}
-use lib.ListN.{length}
+use mathlib.Core.Path.{_≡_, refl, sym, ap, _∙_}
+use Prim.Native.Nat.{ℕ, _+_, _-_, _≤_}
+use lib.ListN.{length, set, getD, length-set}
 use native.Mathlib.Omega.{arith}
 use borrow.Author.Needs.{needs}
 use mathlib.Core.List.{List}
-use mathlib.Core.Path.{refl, sym, ap, _∙_}
 use denote.Ref.{now}
-use lib.ListN.{set, getD, length-set}
 use Rattle.seven_bit.proofs.CopyLaws.{none-copied, next-copied}
 use Rattle.seven_bit.specs.Parts.{part, put}
 use Rattle.seven_bit.proofs.copy_range.Statement.{statement}
 use Rattle.seven_bit.proofs.copy_range.Tie as tie
-use Rattle.seven_bit.proofs.copy_range.Reads as reads
-use Rattle.seven_bit.proofs.copy_range.Lts as lts
 
 abbrev Inv-loop : tie.InvT-loop
 Inv-loop dst₀ at src from to i₀ dst i = (from ≤ i) × (i ≤ to) × (dst ≡ put dst₀ (at + from) (part from (i - from) src)) × (length dst ≡ length dst₀)

@@ -1,19 +1,15 @@
-use mathlib.Core.Path.{_≡_}
-use Prim.Native.Nat.{ℕ, _+_, _-_, _*_, _≤_, _<_}
-use lib.ListN.{length}
+use mathlib.Core.Path.{_≡_, refl, sym, ap, _∙_}
+use Prim.Native.Nat.{ℕ, _+_, _-_, _≤_}
+use lib.ListN.{length, take, set, getD, length-set}
 use native.Mathlib.Omega.{arith}
 use borrow.Author.Needs.{needs}
 use mathlib.Core.List.{List}
-use mathlib.Core.Path.{refl, sym, ap, _∙_}
 use denote.Ref.{now}
-use lib.ListN.{take, set, getD, length-set}
 use lib.Seq.{take-all}
 use Rattle.seven_bit.specs.Parts.{put}
 use Rattle.seven_bit.proofs.PartLaws.{put-none, put-next}
 use Rattle.seven_bit.proofs.put_block.Statement.{statement}
 use Rattle.seven_bit.proofs.put_block.Tie as tie
-use Rattle.seven_bit.proofs.put_block.Reads as reads
-use Rattle.seven_bit.proofs.put_block.Lts as lts
 
 abbrev Inv-loop : tie.InvT-loop
 Inv-loop dst₀ at block i₀ dst i = (i ≤ 16) × (dst ≡ put dst₀ at (take i block)) × (length dst ≡ length dst₀)

@@ -1,19 +1,15 @@
-use mathlib.Core.Path.{_≡_}
-use Prim.Native.Nat.{ℕ, _+_, _-_, _*_, _≤_, _<_}
-use lib.ListN.{length}
+use mathlib.Core.Path.{_≡_, refl, sym, ap, _∙_}
+use Prim.Native.Nat.{ℕ, _+_, _-_, _≤_}
+use lib.ListN.{set, getD, replicate}
 use native.Mathlib.Omega.{arith}
 use borrow.Author.Needs.{needs}
 use mathlib.Core.List.{List}
-use mathlib.Core.Path.{refl, sym, ap, _∙_}
 use denote.Ref.{now}
-use lib.ListN.{set, getD, replicate}
 use Rattle.seven_bit.proofs.PartLaws.{length-part}
 use Rattle.seven_bit.proofs.CopyLaws.{none-copied, next-copied, put-all}
 use Rattle.seven_bit.specs.Parts.{part, put}
 use Rattle.seven_bit.proofs.read_block.Statement.{statement}
 use Rattle.seven_bit.proofs.read_block.Tie as tie
-use Rattle.seven_bit.proofs.read_block.Reads as reads
-use Rattle.seven_bit.proofs.read_block.Lts as lts
 
 abbrev Inv-loop : tie.InvT-loop
 Inv-loop src from block₀ i₀ block i = (i ≤ 16) × (block ≡ put block₀ 0 (part from i src))
