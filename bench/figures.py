@@ -2,6 +2,7 @@
 
 import pathlib
 import re
+import statistics
 
 ROOT = pathlib.Path(__file__).resolve().parent.parent
 MEASURED = ROOT / "target/bench"
@@ -9,12 +10,15 @@ SIDES = ["port", "rust", "copies"]
 
 
 class Row:
-    """Of each side: nanoseconds of one operation, the median and the quickest turn; the port's time by it; instructions."""
+    """Of each side: nanoseconds of one operation, the median and the quickest turn; the port's time by it; instructions.
+    Each process has a line of them."""
 
-    def __init__(self, table, name, *numbers):
+    def __init__(self, table, name, lines):
         self.table, self.name = table, name
-        numbers = [float(number) for number in numbers]
-        self.median, self.quickest, self.by = (dict(zip(SIDES, numbers[k::3])) for k in range(3))
+        told = list(zip(*lines))
+        self.median, self.quickest, self.by = (
+            dict(zip(SIDES, map(of, told[k::3]))) for k, of in enumerate([statistics.median, min, statistics.median])
+        )
         self.count = {}
 
     def label(self):
@@ -46,7 +50,12 @@ class Row:
 
 
 def rows():
-    found = [Row(*line.split("\t")) for line in (MEASURED / "times").read_text().splitlines()]
+    lines = {}
+    for process in sorted(MEASURED.glob("times.*")):
+        for line in process.read_text().splitlines():
+            table, name, *numbers = line.split("\t")
+            lines.setdefault((table, name), []).append([float(number) for number in numbers])
+    found = [Row(table, name, of_all) for (table, name), of_all in lines.items()]
     counts = read_counts()
     for one in found:
         one.count = counts.get((one.table, one.name), {})

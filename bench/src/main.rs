@@ -12,8 +12,6 @@ mod rows;
 use measure::Round;
 use rows::Row;
 
-/// How often all rows are gone through, so that a busy moment of the machine does not hit one row alone.
-const PASSES: usize = 5;
 const SIDES: [&str; 3] = ["port", "rust", "copies"];
 
 fn name(row: &Row) -> String {
@@ -29,18 +27,7 @@ fn each(part: &str, mut visit: impl FnMut(Row)) {
 }
 
 fn times(part: &str) {
-    let mut measured: Vec<(String, Vec<Round>)> = Vec::new();
-    for _ in 0..PASSES {
-        let mut at = 0;
-        each(part, |mut row| {
-            if at == measured.len() {
-                measured.push((name(&row), Vec::new()));
-            }
-            measured[at].1.extend(measure::rounds(&mut row));
-            at += 1;
-        });
-    }
-    measured.iter().for_each(|(name, rounds)| println!("{name}\t{}", line(rounds)));
+    each(part, |mut row| println!("{}\t{}", name(&row), line(&measure::rounds(&mut row))));
 }
 
 /// For each side its median, its quickest turn, and the port's time by its own.
