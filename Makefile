@@ -57,7 +57,7 @@ $(LIBRARY): $(HUB_SOURCES) crates.txt
 	@echo "Building $@: this takes some minutes where nothing is proved yet."
 	@rt staticlib hub >target/staticlib.log 2>&1 || { tail -n 40 target/staticlib.log; exit 1; }
 	@rt staticlib hub_message >target/staticlib.log 2>&1 || { rm -f $@; tail -n 40 target/staticlib.log; exit 1; }
-	@cd target/staticlib && $(AR) x libhub_message.a hub_message.o && $(AR) q libhub.a hub_message.o 2>/dev/null || { rm -f libhub.a; exit 1; }
+	@cd target/staticlib && $(AR) x libhub_message.a hub_message.o && $(AR) q libhub.a hub_message.o || { rm -f libhub.a; exit 1; }
 
 install: lib
 	install -d "$(DESTDIR)$(PREFIX)/include" "$(DESTDIR)$(PREFIX)/lib/pkgconfig"
