@@ -1,11 +1,10 @@
 -- The laws of a part that is lent and comes back, and of a slot that is closed in its place.
 -- Assumes nothing.
 use Prim.Native.Nat.{ℕ, _+_, _-_}
-use mathlib.Core.List.{List, [], _++_}
+use mathlib.Core.List.{List, _++_}
 use mathlib.Core.Path.{_≡_, ap, _∙_}
 use native.Mathlib.Omega.{arith}
-use lib.ListN.{length, set, take, drop, drop-of-length-le}
-use lib.Seq.{drop-cons}
+use lib.ListN.{take, drop}
 use Rattle.seven_bit.specs.Parts.{part, splice}
 use Rattle.pe_slot.specs.Feed.{closed}
 use Rattle.pe_slot.specs.Memory.{slotOf, wordsOf}
@@ -21,28 +20,6 @@ part-lent a k xs = rw (count a k)
 
 pub part-back : {A : Type 0} (a k : ℕ) (xs ys : List A) → take a xs ++ (ys ++ drop (a + k - a) (drop a xs)) ≡ splice a k xs ys
 part-back a k xs ys = rw (count a k)
-
--- nine words are those of their slot
-pub words-slot : (w : List ℕ) → length w ≡ 9 → w ≡ wordsOf (slotOf w)
-words-slot w h =
-    let e0 = drop-cons w 0 0 (omega arith) in
-    let e1 = drop-cons w 1 0 (omega arith) in
-    let e2 = drop-cons w 2 0 (omega arith) in
-    let e3 = drop-cons w 3 0 (omega arith) in
-    let e4 = drop-cons w 4 0 (omega arith) in
-    let e5 = drop-cons w 5 0 (omega arith) in
-    let e6 = drop-cons w 6 0 (omega arith) in
-    let e7 = drop-cons w 7 0 (omega arith) in
-    let e8 = drop-cons w 8 0 (omega arith) in
-    let e9 : drop 9 w ≡ [] = drop-of-length-le w {i = 9} (omega arith) in
-    cc
-
--- 0 in every word but the tick
-abbrev cleared : List ℕ → List ℕ
-cleared w = set (set (set (set (set (set (set (set w 0 0) 1 0) 2 0) 4 0) 5 0) 6 0) 7 0) 8 0
-
-pub clear-words : (w : List ℕ) → length w ≡ 9 → cleared w ≡ wordsOf (closed (slotOf w))
-clear-words w h = ap cleared (words-slot w h)
 
 pub close-back : (numbers words : List ℕ) (p s at : ℕ) → at ≡ slotAt p s → words ≡ wordsOf (closed (slotOf (take (at + 9 - at) (drop at numbers))))
     → take at numbers ++ (words ++ drop (at + 9 - at) (drop at numbers)) ≡ closeAt p s numbers

@@ -282,9 +282,7 @@ fn read_chunk(
     requires { ⌜ hasAll shape (memory (now numbers) (now index) (now headers) (now arenas) (now «out_header») (now «out_body»)) ≡ true ⌝ }
     ensures { λ r. ⌜ fed (fedTold r) (memory (now (numbers .exit)) (now (index .exit)) (now (headers .exit)) (now (arenas .exit)) (now («out_header» .exit)) (now («out_body» .exit))) ≡ chunkRead (readFields (now («data» .entry))) shape (memory (now (numbers .entry)) (now (index .entry)) (now (headers .entry)) (now (arenas .entry)) (now («out_header» .entry)) (now («out_body» .entry))) peer (now («data» .entry)) «now_ms» ⌝ }
 {
-    // a slice made here is passed on in registers
-    let chunk = &data[..];
-    let read = decode_fields(chunk);
+    let read = decode_fields(data);
     let ChunkRead::Value(f) = read else {
         return not_read(read);
     };
@@ -295,7 +293,7 @@ fn read_chunk(
         headers,
         arenas,
         peer,
-        chunk,
+        data,
         f,
         now_ms,
         out_header,

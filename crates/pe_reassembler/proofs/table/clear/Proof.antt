@@ -4,7 +4,7 @@ use borrow.Author.Needs.{needs}
 use Rattle.pe_reassembler.proofs.table.clear.Statement.{statement}
 use Rattle.pe_reassembler.proofs.table.clear.Tie as tie
 use denote.Ref.{now}
-use Rattle.pe_reassembler.proofs.TableClose.{clear-words}
+use Rattle.pe_slot.proofs.SlotWords.{clear-words}
 
 -- src/table.rt:243:5
 slice-write-words : tie.Need-slice-write-words
