@@ -141,7 +141,8 @@ pub extern "C" fn codec_message_encode(
     payload: &[u8],
     out: &mut [u8],
 ) -> Answer
-    ensures { λ r. ⌜ written r (now (out .exit)) ≡ writtenOf (writing (writeMessage (headerIn header) (now (payload .entry)) (length (now (out .entry)))) (now (out .entry))) ⌝ }
+    ensures { λ r. ⌜ written r (now (out .exit))
+        ≡ writtenOf (writing (writeMessage (headerIn header) (now (payload .entry)) (length (now (out .entry)))) (now (out .entry))) ⌝ }
 {
     let header = header_in(header);
     ci_encoded(PeMessage::encode(header, payload, out))

@@ -12,7 +12,7 @@ ghost use Rattle.seven_bit.specs.Reply.{andThen, writing};
 ghost use Rattle.pe_wire.specs.Wire.{readU14, writeU14};
 ghost use Rattle.pe_mcoded7.specs.Mcoded7.{readMcoded7, writeMcoded7};
 ghost use Rattle.pe_controller.specs.Controller.{negotiated};
-ghost use Rattle.pe_frame.specs.Chunk.{readFields, chunkOf};
+ghost use Rattle.pe_frame.specs.Chunk.{readFields, chunkOf, chunkFrom};
 ghost use Rattle.pe_frame.specs.Write.{writeChunk};
 ghost use Rattle.pe_chunker.specs.Cut.{clamped, budget, askFirst, laterCapacity};
 ghost use Rattle.hub.specs.Answers.{answerOf, written, writtenOf};
@@ -78,14 +78,18 @@ pub extern "C" fn codec_encode_chunk(
     property: &[u8],
     out: &mut [u8],
 ) -> Answer
-    ensures { λ r. ⌜ written r (now (out .exit)) ≡ writtenOf (writing (writeChunk (record { request-id = «request_id»; header = now (header .entry); num-chunks = «num_chunks»; chunk-num = «chunk_num»; property = now (property .entry) }) (length (now (out .entry)))) (now (out .entry))) ⌝ }
+    ensures { λ r. ⌜ written r (now (out .exit))
+        ≡ writtenOf (writing (writeChunk (chunkFrom «request_id» (now (header .entry)) «num_chunks» «chunk_num» (now (property .entry)))
+        (length (now (out .entry)))) (now (out .entry))) ⌝ }
 {
     pe_encoded(pe_frame::frame::encode(request_id, header, num_chunks, chunk_num, property, out))
 }
 
 #[no_mangle]
 pub extern "C" fn codec_rewrite(bytes: &[u8], out: &mut [u8]) -> Answer
-    ensures { λ r. ⌜ written r (now (out .exit)) ≡ writtenOf (writing (andThen (readFields (now (bytes .entry))) (λ f. writeChunk (chunkOf (now (bytes .entry)) f) (length (now (out .entry))))) (now (out .entry))) ⌝ }
+    ensures { λ r. ⌜ written r (now (out .exit))
+        ≡ writtenOf (writing (andThen (readFields (now (bytes .entry)))
+        (λ f. writeChunk (chunkOf (now (bytes .entry)) f) (length (now (out .entry))))) (now (out .entry))) ⌝ }
 {
     pe_encoded(pe_frame::chunk_ref::rewrite(bytes, out))
 }

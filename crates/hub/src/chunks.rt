@@ -8,6 +8,7 @@ ghost use lib.ListN.{length};
 ghost use Rattle.seven_bit.specs.Reply.{writing};
 ghost use Rattle.pe_frame.specs.Write.{writeWhole};
 ghost use Rattle.pe_chunker.specs.Cut.{cutCount, cutChunk};
+ghost use Rattle.pe_frame.specs.Chunk.{chunkFrom};
 ghost use Rattle.hub.specs.Answers.{answerOf, written, writtenOf};
 
 // How many chunks the header and the body are cut into.
@@ -33,7 +34,9 @@ pub extern "C" fn midici_pe_split_chunk(
     chunk_num: u16,
     out: &mut [u8],
 ) -> Answer
-    ensures { λ r. ⌜ written r (now (out .exit)) ≡ writtenOf (writing (cutChunk «request_id» (now (header .entry)) (now (body .entry)) «max_sysex» «chunk_num» (length (now (out .entry)))) (now (out .entry))) ⌝ }
+    ensures { λ r. ⌜ written r (now (out .exit))
+        ≡ writtenOf (writing (cutChunk «request_id» (now (header .entry)) (now (body .entry)) «max_sysex» «chunk_num»
+        (length (now (out .entry)))) (now (out .entry))) ⌝ }
 {
     pe_encoded(pe_chunker::split_chunk(request_id, header, body, max_sysex, chunk_num, out))
 }
@@ -51,7 +54,10 @@ pub extern "C" fn midici_pe_encode_message(
     property: &[u8],
     out: &mut [u8],
 ) -> Answer
-    ensures { λ r. ⌜ written r (now (out .exit)) ≡ writtenOf (writing (writeWhole «sub_id2» source dest (record { request-id = «request_id»; header = now (header .entry); num-chunks = «num_chunks»; chunk-num = «chunk_num»; property = now (property .entry) }) (length (now (out .entry)))) (now (out .entry))) ⌝ }
+    ensures { λ r. ⌜ written r (now (out .exit))
+        ≡ writtenOf (writing (writeWhole «sub_id2» source dest
+        (chunkFrom «request_id» (now (header .entry)) «num_chunks» «chunk_num» (now (property .entry))) (length (now (out .entry))))
+        (now (out .entry))) ⌝ }
 {
     pe_encoded(pe_frame::message::encode_message(
         sub_id2,

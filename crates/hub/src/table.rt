@@ -47,7 +47,9 @@ pub extern "C" fn midici_pe_new(
     headers: &[u8],
     arenas: &[u8],
 ) -> Answer
-    ensures { λ r. ⌜ left r (now (numbers .exit), now (index .exit)) ≡ madeOf (newCall (shapeOf «max_peers» «header_bytes» «tx_bytes» «fragment_records») (now (numbers .entry)) (now (index .entry)) (now (headers .entry)) (now (arenas .entry))) ⌝ }
+    ensures { λ r. ⌜ left r (now (numbers .exit), now (index .exit))
+        ≡ madeOf (newCall (shapeOf «max_peers» «header_bytes» «tx_bytes» «fragment_records») (now (numbers .entry)) (now (index .entry))
+        (now (headers .entry)) (now (arenas .entry))) ⌝ }
 {
     let shape = shape_of(max_peers, header_bytes, tx_bytes, fragment_records);
     made(calls::new(shape, numbers, index, headers, arenas))
@@ -70,7 +72,11 @@ pub extern "C" fn midici_pe_feed(
     out_header: &mut [u8],
     out_body: &mut [u8],
 ) -> FedAnswer
-    ensures { λ r. ⌜ left r (memory (now (numbers .exit)) (now (index .exit)) (now (headers .exit)) (now (arenas .exit)) (now («out_header» .exit)) (now («out_body» .exit))) ≡ fedOf (feedCall (shapeOf «max_peers» «header_bytes» «tx_bytes» «fragment_records») (memory (now (numbers .entry)) (now (index .entry)) (now (headers .entry)) (now (arenas .entry)) (now («out_header» .entry)) (now («out_body» .entry))) peer (now («raw_chunk» .entry)) «now_ms») ⌝ }
+    ensures { λ r. ⌜ left r (memory (now (numbers .exit)) (now (index .exit)) (now (headers .exit)) (now (arenas .exit))
+        (now («out_header» .exit)) (now («out_body» .exit)))
+        ≡ fedOf (feedCall (shapeOf «max_peers» «header_bytes» «tx_bytes» «fragment_records»)
+        (memory (now (numbers .entry)) (now (index .entry)) (now (headers .entry)) (now (arenas .entry)) (now («out_header» .entry))
+        (now («out_body» .entry))) peer (now («raw_chunk» .entry)) «now_ms») ⌝ }
 {
     let shape = shape_of(max_peers, header_bytes, tx_bytes, fragment_records);
     fed(feed::feed(
@@ -98,7 +104,9 @@ pub extern "C" fn midici_pe_cancel(
     peer: u32,
     request_id: u8,
 ) -> Answer
-    ensures { λ r. ⌜ left r (now (numbers .exit)) ≡ cancelledOf (cancelCall (shapeOf «max_peers» «header_bytes» «tx_bytes» «fragment_records») (now (numbers .entry)) peer «request_id») ⌝ }
+    ensures { λ r. ⌜ left r (now (numbers .exit))
+        ≡ cancelledOf (cancelCall (shapeOf «max_peers» «header_bytes» «tx_bytes» «fragment_records») (now (numbers .entry)) peer
+        «request_id») ⌝ }
 {
     let shape = shape_of(max_peers, header_bytes, tx_bytes, fragment_records);
     cancelled(calls::cancel(shape, numbers, peer, request_id))
@@ -114,7 +122,8 @@ pub extern "C" fn midici_pe_drop_peer(
     numbers: &mut [u64],
     peer: u32,
 ) -> Answer
-    ensures { λ r. ⌜ left r (now (numbers .exit)) ≡ droppedOf (dropCall (shapeOf «max_peers» «header_bytes» «tx_bytes» «fragment_records») (now (numbers .entry)) peer) ⌝ }
+    ensures { λ r. ⌜ left r (now (numbers .exit))
+        ≡ droppedOf (dropCall (shapeOf «max_peers» «header_bytes» «tx_bytes» «fragment_records») (now (numbers .entry)) peer) ⌝ }
 {
     let shape = shape_of(max_peers, header_bytes, tx_bytes, fragment_records);
     number_counted(calls::drop_peer(shape, numbers, peer))
@@ -132,7 +141,9 @@ pub extern "C" fn midici_pe_poll(
     out_peers: &mut [u64],
     out_request_ids: &mut [u64],
 ) -> Answer
-    ensures { λ r. ⌜ left r (now (numbers .exit), now («out_peers» .exit), now («out_request_ids» .exit)) ≡ polledOf (pollCall (shapeOf «max_peers» «header_bytes» «tx_bytes» «fragment_records») (now (numbers .entry)) «now_ms» (now («out_peers» .entry)) (now («out_request_ids» .entry))) ⌝ }
+    ensures { λ r. ⌜ left r (now (numbers .exit), now («out_peers» .exit), now («out_request_ids» .exit))
+        ≡ polledOf (pollCall (shapeOf «max_peers» «header_bytes» «tx_bytes» «fragment_records») (now (numbers .entry)) «now_ms»
+        (now («out_peers» .entry)) (now («out_request_ids» .entry))) ⌝ }
 {
     let shape = shape_of(max_peers, header_bytes, tx_bytes, fragment_records);
     number_counted(poll::poll(shape, numbers, now_ms, out_peers, out_request_ids))
@@ -150,7 +161,9 @@ pub extern "C" fn midici_pe_open_list(
     out_request_ids: &mut [u64],
     out_chunks_held: &mut [u64],
 ) -> Answer
-    ensures { λ r. ⌜ OpenListed (shapeOf «max_peers» «header_bytes» «tx_bytes» «fragment_records») (now (numbers .entry)) (now («out_peers» .entry)) (now («out_request_ids» .entry)) (now («out_chunks_held» .entry)) (left r (now («out_peers» .exit), now («out_request_ids» .exit), now («out_chunks_held» .exit))) ⌝ }
+    ensures { λ r. ⌜ OpenListed (shapeOf «max_peers» «header_bytes» «tx_bytes» «fragment_records») (now (numbers .entry))
+        (now («out_peers» .entry)) (now («out_request_ids» .entry)) (now («out_chunks_held» .entry))
+        (left r (now («out_peers» .exit), now («out_request_ids» .exit), now («out_chunks_held» .exit))) ⌝ }
 {
     let shape = shape_of(max_peers, header_bytes, tx_bytes, fragment_records);
     number_counted(open::open_list(shape, numbers, out_peers, out_request_ids, out_chunks_held))

@@ -25,7 +25,11 @@ pub extern "C" fn midici_pe_feed_message(
     out_header: &mut [u8],
     out_body: &mut [u8],
 ) -> FedAnswer
-    ensures { λ r. ⌜ left r (memory (now (numbers .exit)) (now (index .exit)) (now (headers .exit)) (now (arenas .exit)) (now («out_header» .exit)) (now («out_body» .exit))) ≡ fedOf (messageCall (shapeOf «max_peers» «header_bytes» «tx_bytes» «fragment_records») (memory (now (numbers .entry)) (now (index .entry)) (now (headers .entry)) (now (arenas .entry)) (now («out_header» .entry)) (now («out_body» .entry))) (now (body .entry)) «now_ms») ⌝ }
+    ensures { λ r. ⌜ left r (memory (now (numbers .exit)) (now (index .exit)) (now (headers .exit)) (now (arenas .exit))
+        (now («out_header» .exit)) (now («out_body» .exit)))
+        ≡ fedOf (messageCall (shapeOf «max_peers» «header_bytes» «tx_bytes» «fragment_records»)
+        (memory (now (numbers .entry)) (now (index .entry)) (now (headers .entry)) (now (arenas .entry)) (now («out_header» .entry))
+        (now («out_body» .entry))) (now (body .entry)) «now_ms») ⌝ }
 {
     let shape = shape_of(max_peers, header_bytes, tx_bytes, fragment_records);
     fed(feed_message(

@@ -138,7 +138,9 @@ pub fn split_chunk(
     chunk_num: u16,
     out: &mut [u8],
 ) -> Encoded
-    ensures { λ r. ⌜ outcome (encodedTold r) (now (out .exit)) ≡ writing (cutChunk «request_id» (now (header .entry)) (now (body .entry)) «max_sysex» «chunk_num» (length (now (out .entry)))) (now (out .entry)) ⌝ }
+    ensures { λ r. ⌜ outcome (encodedTold r) (now (out .exit))
+        ≡ writing (cutChunk «request_id» (now (header .entry)) (now (body .entry)) «max_sysex» «chunk_num» (length (now (out .entry))))
+        (now (out .entry)) ⌝ }
 {
     let num_chunks = match chunk_count(request_id, header, body, max_sysex) {
         ChunkCount::Chunks(n) => n,

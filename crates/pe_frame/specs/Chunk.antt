@@ -21,6 +21,11 @@ pub record Chunk : Type 0 where
   pub chunk-num : ℕ
   pub property : List ℕ
 
+-- The chunk of five parts.
+abbrev pub chunkFrom : ℕ → List ℕ → ℕ → ℕ → List ℕ → Chunk
+chunkFrom request-id header num-chunks chunk-num property =
+    record { request-id = request-id; header = header; num-chunks = num-chunks; chunk-num = chunk-num; property = property }
+
 -- What a reader finds: the numbers, the header's length (it starts at byte 3) and where the property stands.
 pub record Fields : Type 0 where
   pub request-id : ℕ

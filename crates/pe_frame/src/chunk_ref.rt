@@ -9,7 +9,7 @@ ghost use lib.ListN.{length};
 ghost use Rattle.seven_bit.specs.Parts.{part as partOf};
 ghost use Rattle.seven_bit.specs.Reply.{andThen, outcome, writing};
 ghost use Rattle.pe_wire.specs.Wire.{encodedTold};
-ghost use Rattle.pe_frame.specs.Chunk.{readFields, chunkOf};
+ghost use Rattle.pe_frame.specs.Chunk.{readFields, chunkOf, chunkFrom};
 ghost use Rattle.pe_frame.specs.ChunkRef.{chunkIn};
 ghost use Rattle.pe_frame.specs.Write.{writeChunk};
 
@@ -42,7 +42,15 @@ pub(crate) fn chunk_of<'a>(
     property_len: usize,
 ) -> PeChunkRef<'a>
     requires { ⌜ (3 + «header_len» ≤ length (now «data»)) × («property_at» + «property_len» ≤ length (now «data»)) ⌝ }
-    ensures { λ r. ⌜ chunkIn r ≡ chunkOf (now («data» .entry)) (record { request-id = «request_id»; header-len = «header_len»; num-chunks = «num_chunks»; chunk-num = «chunk_num»; property-at = «property_at»; property-len = «property_len» }) ⌝ }
+    ensures { λ r. ⌜ chunkIn r ≡ chunkOf (now («data» .entry))
+        (record {
+          request-id = «request_id»;
+          header-len = «header_len»;
+          num-chunks = «num_chunks»;
+          chunk-num = «chunk_num»;
+          property-at = «property_at»;
+          property-len = «property_len»;
+        }) ⌝ }
 {
     let header = part(data, 3, header_len);
     let property = part(data, property_at, property_len);
@@ -64,14 +72,17 @@ fn encode_fields<'a, 'b>(
     property: &'a [u8],
     out: &'b mut [u8],
 ) -> Encoded
-    ensures { λ r. ⌜ outcome (encodedTold r) (now (out .exit)) ≡ writing (writeChunk (record { request-id = «request_id»; header = now (header .entry); num-chunks = «num_chunks»; chunk-num = «chunk_num»; property = now (property .entry) }) (length (now (out .entry)))) (now (out .entry)) ⌝ }
+    ensures { λ r. ⌜ outcome (encodedTold r) (now (out .exit))
+        ≡ writing (writeChunk (chunkFrom «request_id» (now (header .entry)) «num_chunks» «chunk_num» (now (property .entry)))
+        (length (now (out .entry)))) (now (out .entry)) ⌝ }
 {
     encode(request_id, header, num_chunks, chunk_num, property, out)
 }
 
 // The struct is taken apart, and its chunk written.
 pub(crate) fn encode_ref<'a, 'b>(chunk: PeChunkRef<'a>, out: &'b mut [u8]) -> Encoded
-    ensures { λ r. ⌜ outcome (encodedTold r) (now (out .exit)) ≡ writing (writeChunk (chunkIn (chunk .entry)) (length (now (out .entry)))) (now (out .entry)) ⌝ }
+    ensures { λ r. ⌜ outcome (encodedTold r) (now (out .exit))
+        ≡ writing (writeChunk (chunkIn (chunk .entry)) (length (now (out .entry)))) (now (out .entry)) ⌝ }
 {
     encode_fields(
         chunk.request_id,
@@ -95,7 +106,16 @@ fn rewrite_at(
     out: &mut [u8],
 ) -> Encoded
     requires { ⌜ (3 + «header_len» ≤ length (now «data»)) × («property_at» + «property_len» ≤ length (now «data»)) ⌝ }
-    ensures { λ r. ⌜ outcome (encodedTold r) (now (out .exit)) ≡ writing (writeChunk (chunkOf (now («data» .entry)) (record { request-id = «request_id»; header-len = «header_len»; num-chunks = «num_chunks»; chunk-num = «chunk_num»; property-at = «property_at»; property-len = «property_len» })) (length (now (out .entry)))) (now (out .entry)) ⌝ }
+    ensures { λ r. ⌜ outcome (encodedTold r) (now (out .exit))
+        ≡ writing (writeChunk (chunkOf (now («data» .entry))
+        (record {
+          request-id = «request_id»;
+          header-len = «header_len»;
+          num-chunks = «num_chunks»;
+          chunk-num = «chunk_num»;
+          property-at = «property_at»;
+          property-len = «property_len»;
+        })) (length (now (out .entry)))) (now (out .entry)) ⌝ }
 {
     encode_ref(
         chunk_of(
@@ -113,7 +133,9 @@ fn rewrite_at(
 
 // Reads a chunk and writes it again.
 pub fn rewrite(data: &[u8], out: &mut [u8]) -> Encoded
-    ensures { λ r. ⌜ outcome (encodedTold r) (now (out .exit)) ≡ writing (andThen (readFields (now («data» .entry))) (λ f. writeChunk (chunkOf (now («data» .entry)) f) (length (now (out .entry))))) (now (out .entry)) ⌝ }
+    ensures { λ r. ⌜ outcome (encodedTold r) (now (out .exit))
+        ≡ writing (andThen (readFields (now («data» .entry)))
+        (λ f. writeChunk (chunkOf (now («data» .entry)) f) (length (now (out .entry))))) (now (out .entry)) ⌝ }
 {
     match decode_fields(data) {
         ChunkRead::Refused(e) => Encoded::Refused(e),

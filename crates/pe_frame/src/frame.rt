@@ -11,7 +11,7 @@ ghost use Rattle.seven_bit.specs.Parts.{part, put};
 ghost use Rattle.seven_bit.specs.Reply.{granted, outcome, writing};
 ghost use Rattle.seven_bit.specs.SevenBit.{isSevenBit, numberOf, bytesOf};
 ghost use Rattle.pe_wire.specs.Wire.{readU14, encodedTold};
-ghost use Rattle.pe_frame.specs.Chunk.{Chunk, readFields, chunkTold};
+ghost use Rattle.pe_frame.specs.Chunk.{Chunk, readFields, chunkTold, chunkFrom};
 ghost use Rattle.pe_frame.specs.Write.{askChunk, chunkLen, chunkBytes, writeChunk};
 
 // The bytes of a chunk besides its header and property.
@@ -60,7 +60,8 @@ fn low_six(data: &[u8], at: usize) -> bool
 
 // Count, number and property, behind a header of nh bytes that was found good.
 fn decode_counts(data: &[u8], nh: usize) -> ChunkRead
-    requires { ⌜ (9 + nh ≤ length (now «data»)) × (getD (now «data») 0 0 ≤ 127) × (readU14 (drop 1 (now «data»)) ≡ granted nh) × (isSevenBit (part 3 nh (now «data»)) ≡ true) ⌝ }
+    requires { ⌜ (9 + nh ≤ length (now «data»)) × (getD (now «data») 0 0 ≤ 127) × (readU14 (drop 1 (now «data»))
+        ≡ granted nh) × (isSevenBit (part 3 nh (now «data»)) ≡ true) ⌝ }
     ensures { λ r. ⌜ chunkTold r ≡ readFields (now («data» .entry)) ⌝ }
 {
     if !low_six(data, 3 + nh) {
@@ -123,7 +124,9 @@ pub(crate) fn questions(
     chunk_num: u16,
     property: &[u8],
 ) -> Encoded
-    ensures { λ r. ⌜ encodedTold r ≡ askChunk (record { request-id = «request_id»; header = now (header .entry); num-chunks = «num_chunks»; chunk-num = «chunk_num»; property = now (property .entry) }) (granted (9 + length (now (header .entry)) + length (now (property .entry)))) ⌝ }
+    ensures { λ r. ⌜ encodedTold r ≡ askChunk
+        (chunkFrom «request_id» (now (header .entry)) «num_chunks» «chunk_num» (now (property .entry)))
+        (granted (9 + length (now (header .entry)) + length (now (property .entry)))) ⌝ }
 {
     if request_id > REQUEST_ID_MAX {
         return Encoded::Refused(PeError::BadField);
@@ -169,8 +172,11 @@ pub(crate) fn fill(
     out: &mut [u8],
     at: usize,
 )
-    requires { ⌜ (length (now header) ≤ 16383) × (length (now property) ≤ 16383) × («num_chunks» ≤ 16383) × («chunk_num» ≤ 16383) × (at + (9 + length (now header) + length (now property)) ≤ length (now out)) ⌝ }
-    ensures { λ _. ⌜ now (out .exit) ≡ put (now (out .entry)) at (chunkBytes (record { request-id = «request_id»; header = now (header .entry); num-chunks = «num_chunks»; chunk-num = «chunk_num»; property = now (property .entry) })) ⌝ }
+    requires { ⌜ (length (now header) ≤ 16383) × (length (now property) ≤ 16383) × («num_chunks» ≤ 16383) × («chunk_num» ≤ 16383)
+        × (at + (9 + length (now header) + length (now property)) ≤ length (now out)) ⌝ }
+    ensures { λ _. ⌜ now (out .exit)
+        ≡ put (now (out .entry)) at
+        (chunkBytes (chunkFrom «request_id» (now (header .entry)) «num_chunks» «chunk_num» (now (property .entry)))) ⌝ }
 {
     out[at] = request_id;
     put_u14(out, at + 1, header.len() as u16);
@@ -191,7 +197,9 @@ pub fn encode(
     property: &[u8],
     out: &mut [u8],
 ) -> Encoded
-    ensures { λ r. ⌜ outcome (encodedTold r) (now (out .exit)) ≡ writing (writeChunk (record { request-id = «request_id»; header = now (header .entry); num-chunks = «num_chunks»; chunk-num = «chunk_num»; property = now (property .entry) }) (length (now (out .entry)))) (now (out .entry)) ⌝ }
+    ensures { λ r. ⌜ outcome (encodedTold r) (now (out .exit))
+        ≡ writing (writeChunk (chunkFrom «request_id» (now (header .entry)) «num_chunks» «chunk_num» (now (property .entry)))
+        (length (now (out .entry)))) (now (out .entry)) ⌝ }
 {
     let answer = questions(request_id, header, num_chunks, chunk_num, property);
     let Encoded::Wrote(need) = answer else {

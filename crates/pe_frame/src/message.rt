@@ -18,6 +18,7 @@ ghost use Rattle.seven_bit.specs.Parts.{put};
 ghost use Rattle.seven_bit.specs.Reply.{outcome, writing};
 ghost use Rattle.midici_core.specs.Header.{headerBytes, within28};
 ghost use Rattle.pe_wire.specs.Wire.{encodedTold};
+ghost use Rattle.pe_frame.specs.Chunk.{chunkFrom};
 ghost use Rattle.pe_frame.specs.Write.{headerFor, writeWhole};
 
 // Are both consoles within 28 bits?
@@ -57,7 +58,10 @@ pub fn encode_message(
     property: &[u8],
     out: &mut [u8],
 ) -> Encoded
-    ensures { λ r. ⌜ outcome (encodedTold r) (now (out .exit)) ≡ writing (writeWhole «sub_id2» (source .0) (dest .0) (record { request-id = «request_id»; header = now (header .entry); num-chunks = «num_chunks»; chunk-num = «chunk_num»; property = now (property .entry) }) (length (now (out .entry)))) (now (out .entry)) ⌝ }
+    ensures { λ r. ⌜ outcome (encodedTold r) (now (out .exit))
+        ≡ writing (writeWhole «sub_id2» (source .0) (dest .0)
+        (chunkFrom «request_id» (now (header .entry)) «num_chunks» «chunk_num» (now (property .entry))) (length (now (out .entry))))
+        (now (out .entry)) ⌝ }
 {
     if !muids_fit(sub_id2, source, dest) {
         return Encoded::Refused(PeError::Ci(CiError::InvalidMuid));

@@ -24,7 +24,7 @@ ghost use mathlib.Core.Path.{_≡_};
 ghost use Prim.Native.Nat.{_+_, _*_, _≤_, _<_};
 ghost use lib.ListN.{length};
 ghost use Rattle.seven_bit.specs.Reply.{granted};
-ghost use Rattle.pe_frame.specs.Chunk.{fieldsOf, chunkOf, readFields, chunkTold};
+ghost use Rattle.pe_frame.specs.Chunk.{fieldsOf, chunkOf, readFields, chunkTold, chunkFrom};
 ghost use Rattle.midici_core.specs.Message.{messageTold};
 ghost use Rattle.pe_slot.specs.Feed.{fedTold, feedSlot};
 ghost use Rattle.seven_bit.specs.Parts.{part};
@@ -59,7 +59,9 @@ fn has_all(
     out_header: &[u8],
     out_body: &[u8],
 ) -> bool
-    ensures { λ r. ⌜ r ≡ hasAll shape (memory (now (numbers .entry)) (now (index .entry)) (now (headers .entry)) (now (arenas .entry)) (now («out_header» .entry)) (now («out_body» .entry))) ⌝ }
+    ensures { λ r. ⌜ r ≡ hasAll shape
+        (memory (now (numbers .entry)) (now (index .entry)) (now (headers .entry)) (now (arenas .entry)) (now («out_header» .entry))
+        (now («out_body» .entry))) ⌝ }
 {
     if !has_rooms(shape, numbers, index, headers, arenas) {
         return false;
@@ -129,8 +131,16 @@ fn feed_parts(
     out_header: &mut [u8],
     out_body: &mut [u8],
 ) -> Fed
-    requires { ⌜ (at + 9 ≤ length (now numbers)) × («index_at» + records ≤ length (now index)) × («header_at» + «header_bytes» ≤ length (now headers)) × («arena_at» + «tx_bytes» ≤ length (now arenas)) ⌝ }
-    ensures { λ r. ⌜ fed (fedTold r) (memory (now (numbers .exit)) (now (index .exit)) (now (headers .exit)) (now (arenas .exit)) (now («out_header» .exit)) (now («out_body» .exit))) ≡ spliced at «index_at» records «header_at» «header_bytes» «arena_at» «tx_bytes» (memory (now (numbers .entry)) (now (index .entry)) (now (headers .entry)) (now (arenas .entry)) (now («out_header» .entry)) (now («out_body» .entry))) (feedSlot (part at 9 (now (numbers .entry))) (part «index_at» records (now (index .entry))) (part «header_at» «header_bytes» (now (headers .entry))) (part «arena_at» «tx_bytes» (now (arenas .entry))) (record { request-id = «request_id»; header = now («chunk_header» .entry); num-chunks = «num_chunks»; chunk-num = «chunk_num»; property = now (property .entry) }) «now_ms» tick (now («out_header» .entry)) (now («out_body» .entry))) ⌝ }
+    requires { ⌜ (at + 9 ≤ length (now numbers)) × («index_at» + records ≤ length (now index))
+        × («header_at» + «header_bytes» ≤ length (now headers)) × («arena_at» + «tx_bytes» ≤ length (now arenas)) ⌝ }
+    ensures { λ r. ⌜ fed (fedTold r)
+        (memory (now (numbers .exit)) (now (index .exit)) (now (headers .exit)) (now (arenas .exit)) (now («out_header» .exit))
+        (now («out_body» .exit))) ≡ spliced at «index_at» records «header_at» «header_bytes» «arena_at» «tx_bytes»
+        (memory (now (numbers .entry)) (now (index .entry)) (now (headers .entry)) (now (arenas .entry)) (now («out_header» .entry))
+        (now («out_body» .entry))) (feedSlot (part at 9 (now (numbers .entry))) (part «index_at» records (now (index .entry)))
+        (part «header_at» «header_bytes» (now (headers .entry))) (part «arena_at» «tx_bytes» (now (arenas .entry)))
+        (chunkFrom «request_id» (now («chunk_header» .entry)) «num_chunks» «chunk_num» (now (property .entry))) «now_ms» tick
+        (now («out_header» .entry)) (now («out_body» .entry))) ⌝ }
 {
     feed_slot(
         &mut numbers[at..at + SLOT_WORDS],
@@ -170,7 +180,12 @@ fn reach_slot(
 ) -> Fed
     requires { ⌜ hasAll shape (memory (now numbers) (now index) (now headers) (now arenas) (now «out_header») (now «out_body»)) ≡ true ⌝ }
     requires { ⌜ (p < shape .«max_peers») × (s < 4) × (length (now property) ≤ 16383) ⌝ }
-    ensures { λ r. ⌜ fed (fedTold r) (memory (now (numbers .exit)) (now (index .exit)) (now (headers .exit)) (now (arenas .exit)) (now («out_header» .exit)) (now («out_body» .exit))) ≡ reach shape (memory (now (numbers .entry)) (now (index .entry)) (now (headers .entry)) (now (arenas .entry)) (now («out_header» .entry)) (now («out_body» .entry))) peer (record { request-id = «request_id»; header = now («chunk_header» .entry); num-chunks = «num_chunks»; chunk-num = «chunk_num»; property = now (property .entry) }) «now_ms» p s ⌝ }
+    ensures { λ r. ⌜ fed (fedTold r)
+        (memory (now (numbers .exit)) (now (index .exit)) (now (headers .exit)) (now (arenas .exit)) (now («out_header» .exit))
+        (now («out_body» .exit))) ≡ reach shape
+        (memory (now (numbers .entry)) (now (index .entry)) (now (headers .entry)) (now (arenas .entry)) (now («out_header» .entry))
+        (now («out_body» .entry))) peer
+        (chunkFrom «request_id» (now («chunk_header» .entry)) «num_chunks» «chunk_num» (now (property .entry))) «now_ms» p s ⌝ }
 {
     let at = slot_at(p, s);
     let records = shape.fragment_records;
@@ -222,7 +237,11 @@ fn at_table(
 ) -> Fed
     requires { ⌜ hasAll shape (memory (now numbers) (now index) (now headers) (now arenas) (now «out_header») (now «out_body»)) ≡ true ⌝ }
     requires { ⌜ readFields (now «data») ≡ granted (fieldsOf f) ⌝ }
-    ensures { λ r. ⌜ fed (fedTold r) (memory (now (numbers .exit)) (now (index .exit)) (now (headers .exit)) (now (arenas .exit)) (now («out_header» .exit)) (now («out_body» .exit))) ≡ atTable shape (memory (now (numbers .entry)) (now (index .entry)) (now (headers .entry)) (now (arenas .entry)) (now («out_header» .entry)) (now («out_body» .entry))) peer (chunkOf (now («data» .entry)) (fieldsOf f)) «now_ms» ⌝ }
+    ensures { λ r. ⌜ fed (fedTold r)
+        (memory (now (numbers .exit)) (now (index .exit)) (now (headers .exit)) (now (arenas .exit)) (now («out_header» .exit))
+        (now («out_body» .exit))) ≡ atTable shape
+        (memory (now (numbers .entry)) (now (index .entry)) (now (headers .entry)) (now (arenas .entry)) (now («out_header» .entry))
+        (now («out_body» .entry))) peer (chunkOf (now («data» .entry)) (fieldsOf f)) «now_ms» ⌝ }
 {
     let Place::At(p) = record_for(shape, numbers, peer) else {
         return Fed::Refused(PeError::PeerTableFull);
@@ -280,7 +299,11 @@ fn read_chunk(
     out_body: &mut [u8],
 ) -> Fed
     requires { ⌜ hasAll shape (memory (now numbers) (now index) (now headers) (now arenas) (now «out_header») (now «out_body»)) ≡ true ⌝ }
-    ensures { λ r. ⌜ fed (fedTold r) (memory (now (numbers .exit)) (now (index .exit)) (now (headers .exit)) (now (arenas .exit)) (now («out_header» .exit)) (now («out_body» .exit))) ≡ chunkRead (readFields (now («data» .entry))) shape (memory (now (numbers .entry)) (now (index .entry)) (now (headers .entry)) (now (arenas .entry)) (now («out_header» .entry)) (now («out_body» .entry))) peer (now («data» .entry)) «now_ms» ⌝ }
+    ensures { λ r. ⌜ fed (fedTold r)
+        (memory (now (numbers .exit)) (now (index .exit)) (now (headers .exit)) (now (arenas .exit)) (now («out_header» .exit))
+        (now («out_body» .exit))) ≡ chunkRead (readFields (now («data» .entry))) shape
+        (memory (now (numbers .entry)) (now (index .entry)) (now (headers .entry)) (now (arenas .entry)) (now («out_header» .entry))
+        (now («out_body» .entry))) peer (now («data» .entry)) «now_ms» ⌝ }
 {
     let read = decode_fields(data);
     let ChunkRead::Value(f) = read else {
@@ -314,7 +337,11 @@ pub fn feed(
     out_header: &mut [u8],
     out_body: &mut [u8],
 ) -> Fed
-    ensures { λ r. ⌜ fed (fedTold r) (memory (now (numbers .exit)) (now (index .exit)) (now (headers .exit)) (now (arenas .exit)) (now («out_header» .exit)) (now («out_body» .exit))) ≡ feedCall shape (memory (now (numbers .entry)) (now (index .entry)) (now (headers .entry)) (now (arenas .entry)) (now («out_header» .entry)) (now («out_body» .entry))) peer (now («raw_chunk» .entry)) «now_ms» ⌝ }
+    ensures { λ r. ⌜ fed (fedTold r)
+        (memory (now (numbers .exit)) (now (index .exit)) (now (headers .exit)) (now (arenas .exit)) (now («out_header» .exit))
+        (now («out_body» .exit))) ≡ feedCall shape
+        (memory (now (numbers .entry)) (now (index .entry)) (now (headers .entry)) (now (arenas .entry)) (now («out_header» .entry))
+        (now («out_body» .entry))) peer (now («raw_chunk» .entry)) «now_ms» ⌝ }
 {
     if !has_all(shape, numbers, index, headers, arenas, out_header, out_body) {
         return Fed::Refused(PeError::BadShape);
@@ -358,7 +385,11 @@ pub fn feed_message(
     out_header: &mut [u8],
     out_body: &mut [u8],
 ) -> Fed
-    ensures { λ r. ⌜ fed (fedTold r) (memory (now (numbers .exit)) (now (index .exit)) (now (headers .exit)) (now (arenas .exit)) (now («out_header» .exit)) (now («out_body» .exit))) ≡ messageCall shape (memory (now (numbers .entry)) (now (index .entry)) (now (headers .entry)) (now (arenas .entry)) (now («out_header» .entry)) (now («out_body» .entry))) (now (body .entry)) «now_ms» ⌝ }
+    ensures { λ r. ⌜ fed (fedTold r)
+        (memory (now (numbers .exit)) (now (index .exit)) (now (headers .exit)) (now (arenas .exit)) (now («out_header» .exit))
+        (now («out_body» .exit))) ≡ messageCall shape
+        (memory (now (numbers .entry)) (now (index .entry)) (now (headers .entry)) (now (arenas .entry)) (now («out_header» .entry))
+        (now («out_body» .entry))) (now (body .entry)) «now_ms» ⌝ }
 {
     if !has_all(shape, numbers, index, headers, arenas, out_header, out_body) {
         return Fed::Refused(PeError::BadShape);

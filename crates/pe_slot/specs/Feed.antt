@@ -124,15 +124,20 @@ isShaped words index header arena out-header out-body =
     && leb (length header) (length out-header)
     && leb (length arena) (length out-body)
 
+-- A chunk reaches a sound slot: time and tick are set, the slot's questions are put to what it holds, and their verdict is carried out.
+abbrev pub reachedSlot : List ℕ → List ℕ → List ℕ → List ℕ → Chunk → ℕ → ℕ → List ℕ → List ℕ → After
+reachedSlot words index header arena c now-ms tick out-header out-body =
+    placed (touched (slotOf words) (c .request-id) now-ms tick) index header arena c
+    (judge (length header) (length arena) (length index) (contents (slotOf words) index header arena) c)
+    out-header out-body
+
 -- Questions 30 and 31, the length that a record can hold (1, which no chunk that was read fails), then the slot's own.
 unfoldable pub feedSlot : List ℕ → List ℕ → List ℕ → List ℕ → Chunk → ℕ → ℕ → List ℕ → List ℕ → After
 feedSlot words index header arena c now-ms tick out-header out-body =
     cond (isShaped words index header arena out-header out-body)
     (cond (isSound (length header) (length arena) (length index) (slotOf words) index)
     (cond (leb (length (c .property)) 16383)
-    (placed (touched (slotOf words) (c .request-id) now-ms tick) index header arena c
-    (judge (length header) (length arena) (length index) (contents (slotOf words) index header arena) c)
-    out-header out-body)
+    (reachedSlot words index header arena c now-ms tick out-header out-body)
     (after (refused 1 0) words index header arena out-header out-body))
     (after (refused 31 0) words index header arena out-header out-body))
     (after (refused 30 0) words index header arena out-header out-body)

@@ -14,6 +14,7 @@ ghost use Rattle.pe_slot.specs.Slot.{eqList, judge};
 ghost use Rattle.pe_slot.specs.Memory.{slotOf, wordsOf, contents};
 ghost use Rattle.pe_slot.specs.Feed.{after, feedSlot, fedTold, placed, touched, closed};
 ghost use Rattle.pe_slot.specs.Records.{holds};
+ghost use Rattle.pe_frame.specs.Chunk.{chunkFrom};
 ghost use Rattle.pe_slot.specs.Steps.{isBounded, Ready, headerTaken, takeHeader, countTaken, takeCount, pieceAdded, addPiece, finished, finishOf};
 
 const SLOT_WORDS: usize = 9;
@@ -183,7 +184,8 @@ fn touch(words: &mut [u64], request_id: u8, now_ms: u64, tick: u64)
 // Chunk 1: does its header fit, and is it the one that is known? The first is stored.
 fn take_header(words: &mut [u64], header: &mut [u8], chunk_num: u16, chunk_header: &[u8]) -> Asked
     requires { ⌜ (length (now words) ≡ 9) × (slotOf (now words) .«header_len» ≤ length (now header)) ⌝ }
-    ensures { λ r. ⌜ headerTaken r (now (words .exit)) (now (header .exit)) ≡ takeHeader (now (words .entry)) (now (header .entry)) «chunk_num» (now («chunk_header» .entry)) ⌝ }
+    ensures { λ r. ⌜ headerTaken r (now (words .exit)) (now (header .exit))
+        ≡ takeHeader (now (words .entry)) (now (header .entry)) «chunk_num» (now («chunk_header» .entry)) ⌝ }
 {
     if chunk_num != 1 {
         return Asked::Yes;
@@ -228,8 +230,11 @@ fn add_piece(
     property: &[u8],
     held: bool,
 ) -> Asked
-    requires { ⌜ (length (now words) ≡ 9) × (length (now arena) ≤ 65536) × (slotOf (now words) .«property_bytes» ≤ length (now arena)) × (length (now property) ≤ 16383) ⌝ }
-    ensures { λ r. ⌜ pieceAdded r (now (words .exit)) (now (index .exit)) (now (arena .exit)) ≡ addPiece (now (words .entry)) (now (index .entry)) (now (arena .entry)) «chunk_num» (now (property .entry)) held ⌝ }
+    requires { ⌜ (length (now words)
+        ≡ 9) × (length (now arena) ≤ 65536) × (slotOf (now words) .«property_bytes» ≤ length (now arena))
+        × (length (now property) ≤ 16383) ⌝ }
+    ensures { λ r. ⌜ pieceAdded r (now (words .exit)) (now (index .exit)) (now (arena .exit))
+        ≡ addPiece (now (words .entry)) (now (index .entry)) (now (arena .entry)) «chunk_num» (now (property .entry)) held ⌝ }
 {
     if chunk_num == 0 {
         clear(words);
@@ -265,7 +270,10 @@ fn finish(
     out_body: &mut [u8],
 ) -> Fed
     requires { ⌜ Ready (now words) (now index) (now header) (now arena) (now «out_header») (now «out_body») ⌝ }
-    ensures { λ r. ⌜ finished (fedTold r) (now (words .exit)) (now («out_header» .exit)) (now («out_body» .exit)) ≡ finishOf (now (words .entry)) (contents (slotOf (now (words .entry))) (now (index .entry)) (now (header .entry)) (now (arena .entry))) (now («out_header» .entry)) (now («out_body» .entry)) ⌝ }
+    ensures { λ r. ⌜ finished (fedTold r) (now (words .exit)) (now («out_header» .exit)) (now («out_body» .exit))
+        ≡ finishOf (now (words .entry))
+        (contents (slotOf (now (words .entry))) (now (index .entry)) (now (header .entry)) (now (arena .entry)))
+        (now («out_header» .entry)) (now («out_body» .entry)) ⌝ }
 {
     if words[HEADER_SET] == 0 {
         return Fed::Waiting;
@@ -305,7 +313,14 @@ fn feed_sound(
 ) -> Fed
     requires { ⌜ Ready (now words) (now index) (now header) (now arena) (now «out_header») (now «out_body») ⌝ }
     requires { ⌜ (length (now property) ≤ 16383) × (held ≡ holds «chunk_num» (take (slotOf (now words) .«index_len») (now index))) ⌝ }
-    ensures { λ r. ⌜ after (fedTold r) (now (words .exit)) (now (index .exit)) (now (header .exit)) (now (arena .exit)) (now («out_header» .exit)) (now («out_body» .exit)) ≡ placed (slotOf (now (words .entry))) (now (index .entry)) (now (header .entry)) (now (arena .entry)) (record { request-id = slotOf (now (words .entry)) .«request_id»; header = now («chunk_header» .entry); num-chunks = «num_chunks»; chunk-num = «chunk_num»; property = now (property .entry) }) (judge (length (now (header .entry))) (length (now (arena .entry))) (length (now (index .entry))) (contents (slotOf (now (words .entry))) (now (index .entry)) (now (header .entry)) (now (arena .entry))) (record { request-id = slotOf (now (words .entry)) .«request_id»; header = now («chunk_header» .entry); num-chunks = «num_chunks»; chunk-num = «chunk_num»; property = now (property .entry) })) (now («out_header» .entry)) (now («out_body» .entry)) ⌝ }
+    ensures { λ r. ⌜ after (fedTold r) (now (words .exit)) (now (index .exit)) (now (header .exit)) (now (arena .exit))
+        (now («out_header» .exit)) (now («out_body» .exit))
+        ≡ placed (slotOf (now (words .entry))) (now (index .entry)) (now (header .entry)) (now (arena .entry))
+        (chunkFrom (slotOf (now (words .entry)) .«request_id») (now («chunk_header» .entry)) «num_chunks» «chunk_num»
+        (now (property .entry))) (judge (length (now (header .entry))) (length (now (arena .entry))) (length (now (index .entry)))
+        (contents (slotOf (now (words .entry))) (now (index .entry)) (now (header .entry)) (now (arena .entry)))
+        (chunkFrom (slotOf (now (words .entry)) .«request_id») (now («chunk_header» .entry)) «num_chunks» «chunk_num»
+        (now (property .entry)))) (now («out_header» .entry)) (now («out_body» .entry)) ⌝ }
 {
     if let Asked::No(e) = take_header(words, header, chunk_num, chunk_header) {
         return Fed::Refused(e);
@@ -345,7 +360,11 @@ pub fn feed_slot(
     out_header: &mut [u8],
     out_body: &mut [u8],
 ) -> Fed
-    ensures { λ r. ⌜ after (fedTold r) (now (words .exit)) (now (index .exit)) (now (header .exit)) (now (arena .exit)) (now («out_header» .exit)) (now («out_body» .exit)) ≡ feedSlot (now (words .entry)) (now (index .entry)) (now (header .entry)) (now (arena .entry)) (record { request-id = «request_id»; header = now («chunk_header» .entry); num-chunks = «num_chunks»; chunk-num = «chunk_num»; property = now (property .entry) }) «now_ms» tick (now («out_header» .entry)) (now («out_body» .entry)) ⌝ }
+    ensures { λ r. ⌜ after (fedTold r) (now (words .exit)) (now (index .exit)) (now (header .exit)) (now (arena .exit))
+        (now («out_header» .exit)) (now («out_body» .exit))
+        ≡ feedSlot (now (words .entry)) (now (index .entry)) (now (header .entry)) (now (arena .entry))
+        (chunkFrom «request_id» (now («chunk_header» .entry)) «num_chunks» «chunk_num» (now (property .entry))) «now_ms» tick
+        (now («out_header» .entry)) (now («out_body» .entry)) ⌝ }
 {
     if !is_shaped(
         words.len(),

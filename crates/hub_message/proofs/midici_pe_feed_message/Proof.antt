@@ -8,43 +8,33 @@ use Rattle.hub.proofs.AnswerLaws.{leaves}
 abbrev called : tie.After-fed → tie.After-feed-message
 called c = c .before .before .before .before .before .before .before .before .before .before .before .before .before
 
--- src/table.rt:108:9
 shape-of-requires : tie.Need-shape-of-requires
 shape-of-requires c κs = search needs
 
--- src/table.rt:109:9
 feed-message-requires : tie.Need-feed-message-requires
 feed-message-requires c κs = search needs
 
--- src/table.rt:109:5
 fed-requires : tie.Need-fed-requires
 fed-requires c κs = search needs
 
--- src/table.rt:91:1
 same-length : tie.Need-same-length
 same-length c = search needs
 
--- src/table.rt:91:1
 same-length-2 : tie.Need-same-length-2
 same-length-2 c = search needs
 
--- src/table.rt:91:1
 same-length-3 : tie.Need-same-length-3
 same-length-3 c = search needs
 
--- src/table.rt:91:1
 same-length-4 : tie.Need-same-length-4
 same-length-4 c = search needs
 
--- src/table.rt:91:1
 same-length-5 : tie.Need-same-length-5
 same-length-5 c = search needs
 
--- src/table.rt:91:1
 same-length-6 : tie.Need-same-length-6
 same-length-6 c = search needs
 
--- src/table.rt:91:1
 returns : tie.Need-returns
 returns c =
     rw (sym (called c .before .before .before .before .before .before .before .shape-of .ensures))

@@ -5,7 +5,6 @@ use Rattle.pe_chunker.proofs.body_part.Statement.{statement}
 use Rattle.pe_chunker.proofs.body_part.Tie as tie
 use native.Mathlib.Nat.{mul-le-mul}
 
--- src/lib.rt:121:16
 mul-room : tie.Need-mul-room
 mul-room c =
     let a = c .args in
@@ -14,15 +13,12 @@ mul-room c =
     let m : a .chunks * a .later ≤ 65535 * 4072 = mul-le-mul n l in
     omega arith
 
--- src/lib.rt:123:9
 returns : tie.Need-returns
 returns c = search needs
 
--- src/lib.rt:126:9
 returns-2 : tie.Need-returns-2
 returns-2 c = search needs
 
--- src/lib.rt:117:1
 returns-3 : tie.Need-returns-3
 returns-3 c = search needs
 

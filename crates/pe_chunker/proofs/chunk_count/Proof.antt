@@ -31,55 +31,44 @@ counted c =
     ∙ ap (λ (k : ℕ). 1 + (length (now (a .body)) - (k - length (now (a .header))) + (k - 1)) / k) (sym (l .ensures))
     ∙ sym (c .chunks-for .ensures)
 
--- src/lib.rt:84:9
 returns : tie.Need-returns
 unfolding cutCount
 returns c = sym (cut-id _ _ _ _ _ (c .if1 .taken))
 
--- src/lib.rt:86:9
 all-seven-bit-requires : tie.Need-all-seven-bit-requires
 all-seven-bit-requires c κs = search needs
 
--- src/lib.rt:87:9
 returns-2 : tie.Need-returns-2
 unfolding cutCount
 returns-2 c = sym (cut-high _ _ _ _ _ (c .before .before .if1 .left) (sym (c .before .all-seven-bit .ensures) ∙ not-true _ (c .if2 .taken)))
 
--- src/lib.rt:89:23
 cast-if3 : tie.Need-cast-if3
 cast-if3 c = search needs
 
--- src/lib.rt:90:9
 returns-3 : tie.Need-returns-3
 unfolding cutCount
 returns-3 c = sym (cut-long _ _ _ _ _ (c .before .before .before .if1 .left) (low (c .before)) (c .if3 .taken))
 
--- src/lib.rt:92:9
 later-chunk-property-capacity-requires : tie.Need-later-chunk-property-capacity-requires
 later-chunk-property-capacity-requires c κs = search needs
 
--- src/lib.rt:94:9
 returns-4 : tie.Need-returns-4
 unfolding cutCount
 returns-4 c =
     let t = c .before .before in
     sym (cut-wide _ _ _ _ _ (t .before .before .before .if1 .left) (low (t .before)) (t .if3 .left) (omega arith))
 
--- src/lib.rt:96:41
 sub-chunks-for : tie.Need-sub-chunks-for
 sub-chunks-for c = search needs
 
--- src/lib.rt:96:9
 chunks-for-requires : tie.Need-chunks-for-requires
 chunks-for-requires c κs =
     let h = later-between (c .before .before .before .before .before .before .before .before .args .max-sysex) in
     (omega arith, omega arith, omega arith)
 
--- src/lib.rt:97:17
 cast-if5 : tie.Need-cast-if5
 cast-if5 c = search needs
 
--- src/lib.rt:98:9
 returns-5 : tie.Need-returns-5
 unfolding cutCount
 returns-5 c =
@@ -87,11 +76,9 @@ returns-5 c =
     let t = c .before .before .before .before .before in
     sym (cut-many _ _ _ _ _ (t .before .before .if1 .left) (low t) (omega arith) (omega arith))
 
--- src/lib.rt:100:24
 cast-t17 : tie.Need-cast-t17
 cast-t17 c = search needs
 
--- src/lib.rt:80:1
 returns-6 : tie.Need-returns-6
 unfolding cutCount
 returns-6 c =

@@ -7,7 +7,6 @@ use Rattle.pe_chunker.proofs.chunks_for.Tie as tie
 use native.Mathlib.Nat.{div-le-self}
 use Rattle.pe_chunker.proofs.CutLaws.{ceiling-none}
 
--- src/lib.rt:74:9
 returns : tie.Need-returns
 returns c =
     let a = c .before .args in
@@ -15,27 +14,21 @@ returns c =
     let z = ceiling-none (a .later) (omega arith) in
     rw (n, z)
 
--- src/lib.rt:76:10
 sub-result : tie.Need-sub-result
 sub-result c = search needs
 
--- src/lib.rt:76:30
 sub-result-2 : tie.Need-sub-result-2
 sub-result-2 c = search needs
 
--- src/lib.rt:76:10
 add-result : tie.Need-add-result
 add-result c = search needs
 
--- src/lib.rt:76:9
 div-result : tie.Need-div-result
 div-result c = search needs
 
--- src/lib.rt:76:5
 add-result-2 : tie.Need-add-result-2
 add-result-2 c = let a = c .before .args in omega (arith, div-le-self (a .body-len - a .first + (a .later - 1)) (a .later))
 
--- src/lib.rt:69:1
 returns-2 : tie.Need-returns-2
 returns-2 c = search needs
 

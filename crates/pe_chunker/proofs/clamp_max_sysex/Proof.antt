@@ -3,15 +3,12 @@ use Rattle.pe_chunker.proofs.clamp_max_sysex.Statement.{statement}
 use Rattle.pe_chunker.proofs.clamp_max_sysex.Tie as tie
 use Rattle.pe_chunker.proofs.CutLaws.{clamped-low, clamped-high, clamped-same}
 
--- src/lib.rt:35:9
 returns : tie.Need-returns
 returns c = sym (clamped-low _ (c .if1 .taken))
 
--- src/lib.rt:38:9
 returns-2 : tie.Need-returns-2
 returns-2 c = sym (clamped-high _ (c .before .if1 .left) (c .if2 .taken))
 
--- src/lib.rt:31:1
 returns-3 : tie.Need-returns-3
 returns-3 c = sym (clamped-same _ (c .before .if1 .left) (c .if2 .left))
 

@@ -4,15 +4,12 @@ use Rattle.pe_chunker.proofs.first_chunk_property_capacity.Statement.{s
 use Rattle.pe_chunker.proofs.first_chunk_property_capacity.Tie as tie
 use Rattle.pe_chunker.proofs.CutLaws.{first-granted, first-refused}
 
--- src/lib.rt:54:9
 later-chunk-property-capacity-requires : tie.Need-later-chunk-property-capacity-requires
 later-chunk-property-capacity-requires c κs = search needs
 
--- src/lib.rt:56:9
 returns : tie.Need-returns
 returns c = rw (first-refused (c .before .before .args .max-sysex) (c .before .before .args .header-len) (omega arith))
 
--- src/lib.rt:51:1
 returns-2 : tie.Need-returns-2
 returns-2 c = rw (first-granted (c .before .before .args .max-sysex) (c .before .before .args .header-len) (omega arith), c .before .later-chunk-property-capacity .ensures)
 

@@ -2,11 +2,9 @@ use Rattle.pe_chunker.proofs.header_part.Statement.{statement}
 use Rattle.pe_chunker.proofs.header_part.Tie as tie
 use borrow.Author.Tests.{eq-eqb, ne-eqb}
 
--- src/lib.rt:111:9
 returns : tie.Need-returns
 returns c = rw (eq-eqb _ _ (c .if1 .taken))
 
--- src/lib.rt:107:1
 returns-2 : tie.Need-returns-2
 returns-2 c = rw (ne-eqb _ _ (c .if1 .left))
 

@@ -5,15 +5,12 @@ use Rattle.pe_chunker.proofs.later_chunk_property_capacity.Tie as tie
 use Rattle.pe_chunker.specs.Cut.{laterCapacity}
 use Rattle.pe_chunker.proofs.CutLaws.{budget-between}
 
--- src/lib.rt:65:5
 pe-payload-budget-requires : tie.Need-pe-payload-budget-requires
 pe-payload-budget-requires c κs = search needs
 
--- src/lib.rt:65:5
 sub-result : tie.Need-sub-result
 sub-result c = let h = budget-between (c .before .args .max-sysex) in omega arith
 
--- src/lib.rt:62:1
 returns : tie.Need-returns
 unfolding laterCapacity
 returns c = search needs

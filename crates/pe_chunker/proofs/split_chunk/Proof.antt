@@ -35,85 +35,68 @@ ends c =
     part-ends (length (now (up (up2 c) .args .header))) (up (up2 c) .args .chunk-num - 1) (up (up2 c) .args .chunk-num) _ _ _ _
     (omega arith) (c .before .body-part .ensures) (c .body-part2 .ensures)
 
--- src/lib.rt:142:28
 chunk-count-requires : tie.Need-chunk-count-requires
 chunk-count-requires c κs = search needs
 
--- src/lib.rt:143:28
 enum-known-n : tie.Need-enum-known-n
 enum-known-n c = search needs
 
--- src/lib.rt:144:29
 enum-known-e : tie.Need-enum-known-e
 enum-known-e c = search needs
 
--- src/lib.rt:144:35
 returns : tie.Need-returns
 returns c =
     let a = c .before .before .before .before .before .before .before .args in
     let q = sym (c .before .before .before .chunk-count .ensures) ∙ ap countTold (c .before .e .given .1) in
     rw (chunk-refused _ _ _ _ (a .chunk-num) (length (now (a .out))) _ _ q)
 
--- src/lib.rt:147:9
 returns-2 : tie.Need-returns-2
 returns-2 c =
     let a = c .before .before .before .before .before .before .before .before .args in
     rw (chunk-none _ _ _ _ (a .chunk-num) (length (now (a .out))) (cut (c .before .before) .0) (c .if1 .taken))
 
--- src/lib.rt:150:9
 returns-3 : tie.Need-returns-3
 returns-3 c =
     let a = c .before .before .before .before .before .before .before .before .before .args in
     let e = cut (c .before .before .before) .1 in
     rw (chunk-past _ _ _ _ (a .chunk-num) (length (now (a .out))) (cut (c .before .before .before) .0) (c .before .if1 .left) (omega arith))
 
--- src/lib.rt:152:9
 later-chunk-property-capacity-requires : tie.Need-later-chunk-property-capacity-requires
 later-chunk-property-capacity-requires c κs = search needs
 
--- src/lib.rt:153:9
 header-part-requires : tie.Need-header-part-requires
 header-part-requires c κs = search needs
 
--- src/lib.rt:154:9
 body-part-requires : tie.Need-body-part-requires
 body-part-requires c κs =
     let h = later-between (c .before .before .before .before .before .before .before .before .before .before .before .args .max-sysex) in
     omega arith
 
--- src/lib.rt:155:9
 body-part-requires-2 : tie.Need-body-part-requires-2
 body-part-requires-2 c κs =
     let h = later-between (c .before .before .before .before .before .before .before .before .before .before .before .before .args .max-sysex) in
     omega arith
 
--- src/lib.rt:158:9
 slice-aggregate-encode : tie.Need-slice-aggregate-encode
 slice-aggregate-encode c =
     let a = c .before .before .before .before .before .before .before .before .before .before .before .before .before .before .args in
     sym (length-take-le _ (now (a .header)) (header-fits (a .chunk-num) _ _ (c .before .before .before .header-part .ensures)))
 
--- src/lib.rt:161:9
 sub-encode : tie.Need-sub-encode
 sub-encode c = let h = ends (c .before) in omega arith
 
--- src/lib.rt:161:9
 part-encode-start : tie.Need-part-encode-start
 part-encode-start c = let h = ends (c .before) in omega arith
 
--- src/lib.rt:161:9
 part-encode-end : tie.Need-part-encode-end
 part-encode-end c = search needs
 
--- src/lib.rt:156:5
 encode-requires : tie.Need-encode-requires
 encode-requires c κs = search needs
 
--- src/lib.rt:132:1
 same-length : tie.Need-same-length
 same-length c = search needs
 
--- src/lib.rt:132:1
 returns-4 : tie.Need-returns-4
 returns-4 c =
     let d = c .before .before .before .before .before .before in

@@ -11,11 +11,9 @@ smaller-is : (c : tie.Joined1)
     → cond (leb (c .before .args .ours) (c .before .args .theirs)) (c .before .args .ours) (c .before .args .theirs) ≡ c .if1 .smaller
 smaller-is c = ⊎-elim (λ w. smaller-first _ _ _ (w .0 .taken) (w .1)) (λ w. smaller-second _ _ _ (w .0 .left) (w .1)) (c .if1 .came)
 
--- src/lib.rt:38:1
 returns : tie.Need-returns
 returns c = sym (settled-one _ _ _ (smaller-is (c .before)) (c .if2 .taken))
 
--- src/lib.rt:38:1
 returns-2 : tie.Need-returns-2
 returns-2 c = sym (settled-smaller _ _ _ (smaller-is (c .before)) (c .if2 .left))
 

@@ -17,18 +17,15 @@ checked : (c : tie.After-enum-told)
     → askText (now (c .before .before .before .before .before .args .input)) ≡ encodedTold (Encoded.Wrote (c .enum-told .given .0 .0))
 checked c = sym (c .before .before .check .ensures) ∙ ap encodedTold (c .enum-told .given .1)
 
--- src/lib.rt:32:9
 check-requires : tie.Need-check-requires
 check-requires c κs = search needs
 
 enum-told : tie.Need-enum-told
 enum-told c = search needs
 
--- src/lib.rt:34:9
 enum-told-2 : tie.Need-enum-told-2
 enum-told-2 c = search needs
 
--- src/lib.rt:34:9
 returns : tie.Need-returns
 returns c =
     let e = c .enum-told2 .given .1 in
@@ -36,32 +33,26 @@ returns c =
     let q = sym (c .before .before .check .ensures) ∙ ap encodedTold e in
     rw (read-refused _ (length out) _ _ q) (ap (λ (r : Encoded). outcome (encodedTold r) out) e)
 
--- src/lib.rt:37:30
 add-len : tie.Need-add-len
 add-len c = search needs
 
--- src/lib.rt:37:15
 sub-len : tie.Need-sub-len
 sub-len c = search needs
 
--- src/lib.rt:39:9
 returns-2 : tie.Need-returns-2
 returns-2 c =
     let a = c .before .before .before .before .before .before .args in
     rw (read-short (now (a .input)) (length (now (a .out))) _ (checked (c .before)) (omega (arith, length-decoded (now (a .input)))))
 
--- src/lib.rt:41:5
 decode-into-requires : tie.Need-decode-into-requires
 decode-into-requires c κs =
     let t = c .before .before in
     let s = now (t .before .before .before .before .before .args .input) in
     (groups-low s _ (checked t), omega (arith, length-decoded s))
 
--- src/lib.rt:29:1
 same-length : tie.Need-same-length
 same-length c = search needs
 
--- src/lib.rt:29:1
 returns-3 : tie.Need-returns-3
 returns-3 c =
     let b = c .before .before .before .before in

@@ -8,29 +8,23 @@ use Rattle.pe_mcoded7.proofs.TextLaws.{length-encoded}
 use Rattle.pe_mcoded7.proofs.AskLaws.{write-short, write-granted}
 use Rattle.pe_mcoded7.proofs.StoreLaws.{put-written}
 
--- src/lib.rt:20:30
 add-len : tie.Need-add-len
 add-len c = search needs
 
--- src/lib.rt:20:15
 add-len-2 : tie.Need-add-len-2
 add-len-2 c = search needs
 
--- src/lib.rt:22:9
 returns : tie.Need-returns
 returns c =
     let a = c .before .before .before .args in
     rw (write-short (now (a .input)) (length (now (a .out))) (omega (arith, length-encoded (now (a .input)))))
 
--- src/lib.rt:24:5
 encode-into-requires : tie.Need-encode-into-requires
 encode-into-requires c κs = omega (arith, length-encoded (now (c .before .before .before .before .args .input)))
 
--- src/lib.rt:16:1
 same-length : tie.Need-same-length
 same-length c = search needs
 
--- src/lib.rt:16:1
 returns-2 : tie.Need-returns-2
 returns-2 c =
     let b = c .before .before .before .before in

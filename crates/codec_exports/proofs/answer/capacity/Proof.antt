@@ -10,27 +10,21 @@ use Rattle.hub.proofs.AnswerLaws.{matched}
 abbrev tells : Capacity → Answer
 tells a = answerOf (capacityTold a)
 
--- src/answer.rt:304:25
 enum-known-a : tie.Need-enum-known-a
 enum-known-a c = search needs
 
--- src/answer.rt:304:31
 counted-requires : tie.Need-counted-requires
 counted-requires c κs = search needs
 
--- src/answer.rt:305:27
 enum-known-a-2 : tie.Need-enum-known-a-2
 enum-known-a-2 c = search needs
 
--- src/answer.rt:305:33
 pe-refused-requires : tie.Need-pe-refused-requires
 pe-refused-requires c κs = search needs
 
--- src/answer.rt:300:1
 returns : tie.Need-returns
 returns c = matched tells (c .before .before .a .given .1) (c .counted .ensures)
 
--- src/answer.rt:300:1
 returns-2 : tie.Need-returns-2
 returns-2 c = matched tells (c .before .before .a2 .given .1) (c .pe-refused .ensures)
 

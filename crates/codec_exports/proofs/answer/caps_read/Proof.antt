@@ -10,31 +10,24 @@ use Rattle.hub.proofs.AnswerLaws.{matched}
 abbrev tells : CapsRead → CapsAnswer
 tells a = capsAnswerOf (capsTold a)
 
--- src/answer.rt:234:25
 enum-known-a : tie.Need-enum-known-a
 enum-known-a c = search needs
 
--- src/answer.rt:238:25
 header-out-requires : tie.Need-header-out-requires
 header-out-requires c κs = search needs
 
--- src/answer.rt:244:27
 enum-known-a-2 : tie.Need-enum-known-a-2
 enum-known-a-2 c = search needs
 
--- src/answer.rt:245:22
 number-requires : tie.Need-number-requires
 number-requires c κs = search needs
 
--- src/answer.rt:246:20
 value-requires : tie.Need-value-requires
 value-requires c κs = search needs
 
--- src/answer.rt:230:1
 returns : tie.Need-returns
 returns c = matched tells (c .before .before .a .given .1) (rw (c .header-out .ensures))
 
--- src/answer.rt:230:1
 returns-2 : tie.Need-returns-2
 returns-2 c = matched tells (c .before .before .before .a2 .given .1) (rw (c .before .number .ensures, c .value .ensures))
 

@@ -11,27 +11,21 @@ use Rattle.hub.proofs.AnswerLaws.{matched}
 abbrev tells : ChunkRead → ChunkAnswer
 tells a = chunkAnswerOf (chunkTold a)
 
--- src/answer.rt:277:26
 enum-known-a : tie.Need-enum-known-a
 enum-known-a c = search needs
 
--- src/answer.rt:287:28
 enum-known-a-2 : tie.Need-enum-known-a-2
 enum-known-a-2 c = search needs
 
--- src/answer.rt:288:22
 number-requires : tie.Need-number-requires
 number-requires c κs = search needs
 
--- src/answer.rt:289:20
 value-requires : tie.Need-value-requires
 value-requires c κs = search needs
 
--- src/answer.rt:273:1
 returns : tie.Need-returns
 returns c = matched tells (c .before .a .given .1) refl
 
--- src/answer.rt:273:1
 returns-2 : tie.Need-returns-2
 returns-2 c = matched tells (c .before .before .before .a2 .given .1) (rw (c .before .number .ensures, c .value .ensures))
 

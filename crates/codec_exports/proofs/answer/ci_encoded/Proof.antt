@@ -10,27 +10,21 @@ use Rattle.hub.proofs.AnswerLaws.{matched}
 abbrev tells : Encoded → Answer
 tells a = answerOf (encodedTold a)
 
--- src/answer.rt:141:26
 enum-known-a : tie.Need-enum-known-a
 enum-known-a c = search needs
 
--- src/answer.rt:141:32
 counted-requires : tie.Need-counted-requires
 counted-requires c κs = search needs
 
--- src/answer.rt:142:28
 enum-known-a-2 : tie.Need-enum-known-a-2
 enum-known-a-2 c = search needs
 
--- src/answer.rt:142:34
 ci-refused-requires : tie.Need-ci-refused-requires
 ci-refused-requires c κs = search needs
 
--- src/answer.rt:137:1
 returns : tie.Need-returns
 returns c = matched tells (c .before .before .a .given .1) (c .counted .ensures)
 
--- src/answer.rt:137:1
 returns-2 : tie.Need-returns-2
 returns-2 c = matched tells (c .before .before .a2 .given .1) (c .ci-refused .ensures)
 

@@ -2,19 +2,15 @@ use borrow.Author.Needs.{needs}
 use Rattle.codec_exports.proofs.answer.ci_refused.Statement.{statement}
 use Rattle.codec_exports.proofs.answer.ci_refused.Tie as tie
 
--- src/answer.rt:125:17
 number-requires : tie.Need-number-requires
 number-requires c κs = search needs
 
--- src/answer.rt:125:29
 value-requires : tie.Need-value-requires
 value-requires c κs = search needs
 
--- src/answer.rt:125:5
 turned-down-requires : tie.Need-turned-down-requires
 turned-down-requires c κs = search needs
 
--- src/answer.rt:122:1
 returns : tie.Need-returns
 returns c = cc
 

@@ -11,19 +11,15 @@ use Rattle.hub.proofs.AnswerLaws.{matched}
 abbrev tells : Generated → GeneratedAnswer
 tells a = generatedAnswerOf (generatedTold a)
 
--- src/answer.rt:191:26
 enum-known-a : tie.Need-enum-known-a
 enum-known-a c = search needs
 
--- src/answer.rt:195:31
 enum-told : tie.Need-enum-told
 enum-told c = search needs
 
--- src/answer.rt:187:1
 returns : tie.Need-returns
 returns c = matched tells (c .before .a .given .1) refl
 
--- src/answer.rt:187:1
 returns-2 : tie.Need-returns-2
 returns-2 c = matched tells (c .enum-told .given .1) refl
 

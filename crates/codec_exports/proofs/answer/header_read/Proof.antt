@@ -10,31 +10,24 @@ use Rattle.hub.proofs.AnswerLaws.{matched}
 abbrev tells : HeaderRead → HeaderAnswer
 tells a = headerAnswerOf (headerTold a)
 
--- src/answer.rt:217:27
 enum-known-a : tie.Need-enum-known-a
 enum-known-a c = search needs
 
--- src/answer.rt:220:21
 header-out-requires : tie.Need-header-out-requires
 header-out-requires c κs = search needs
 
--- src/answer.rt:222:29
 enum-known-a-2 : tie.Need-enum-known-a-2
 enum-known-a-2 c = search needs
 
--- src/answer.rt:223:22
 number-requires : tie.Need-number-requires
 number-requires c κs = search needs
 
--- src/answer.rt:224:20
 value-requires : tie.Need-value-requires
 value-requires c κs = search needs
 
--- src/answer.rt:213:1
 returns : tie.Need-returns
 returns c = matched tells (c .before .before .a .given .1) (rw (c .header-out .ensures))
 
--- src/answer.rt:213:1
 returns-2 : tie.Need-returns-2
 returns-2 c = matched tells (c .before .before .before .a2 .given .1) (rw (c .before .number .ensures, c .value .ensures))
 

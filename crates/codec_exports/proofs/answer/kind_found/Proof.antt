@@ -11,19 +11,15 @@ use Rattle.hub.proofs.AnswerLaws.{matched}
 abbrev tells : KindFound → KindAnswer
 tells a = kindAnswerOf (kindTold a)
 
--- src/answer.rt:206:26
 enum-known-a : tie.Need-enum-known-a
 enum-known-a c = search needs
 
--- src/answer.rt:212:31
 enum-told : tie.Need-enum-told
 enum-told c = search needs
 
--- src/answer.rt:202:1
 returns : tie.Need-returns
 returns c = matched tells (c .before .a .given .1) refl
 
--- src/answer.rt:202:1
 returns-2 : tie.Need-returns-2
 returns-2 c = matched tells (c .enum-told .given .1) refl
 

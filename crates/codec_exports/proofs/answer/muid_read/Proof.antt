@@ -10,31 +10,24 @@ use Rattle.hub.proofs.AnswerLaws.{matched}
 abbrev tells : MuidRead → Answer
 tells a = answerOf (muidTold a)
 
--- src/answer.rt:150:25
 enum-known-a : tie.Need-enum-known-a
 enum-known-a c = search needs
 
--- src/answer.rt:150:39
 cast-counted : tie.Need-cast-counted
 cast-counted c = search needs
 
--- src/answer.rt:150:31
 counted-requires : tie.Need-counted-requires
 counted-requires c κs = search needs
 
--- src/answer.rt:151:27
 enum-known-a-2 : tie.Need-enum-known-a-2
 enum-known-a-2 c = search needs
 
--- src/answer.rt:151:33
 ci-refused-requires : tie.Need-ci-refused-requires
 ci-refused-requires c κs = search needs
 
--- src/answer.rt:146:1
 returns : tie.Need-returns
 returns c = matched tells (c .before .before .before .a .given .1) (c .counted .ensures)
 
--- src/answer.rt:146:1
 returns-2 : tie.Need-returns-2
 returns-2 c = matched tells (c .before .before .a2 .given .1) (c .ci-refused .ensures)
 

@@ -10,31 +10,24 @@ use Rattle.hub.proofs.AnswerLaws.{matched}
 abbrev tells : U14 → Answer
 tells a = answerOf (u14Told a)
 
--- src/answer.rt:132:20
 enum-known-a : tie.Need-enum-known-a
 enum-known-a c = search needs
 
--- src/answer.rt:132:34
 cast-counted : tie.Need-cast-counted
 cast-counted c = search needs
 
--- src/answer.rt:132:26
 counted-requires : tie.Need-counted-requires
 counted-requires c κs = search needs
 
--- src/answer.rt:133:22
 enum-known-a-2 : tie.Need-enum-known-a-2
 enum-known-a-2 c = search needs
 
--- src/answer.rt:133:28
 pe-refused-requires : tie.Need-pe-refused-requires
 pe-refused-requires c κs = search needs
 
--- src/answer.rt:128:1
 returns : tie.Need-returns
 returns c = matched tells (c .before .before .a .given .1) (c .counted .ensures)
 
--- src/answer.rt:128:1
 returns-2 : tie.Need-returns-2
 returns-2 c = matched tells (c .before .before .a2 .given .1) (c .pe-refused .ensures)
 

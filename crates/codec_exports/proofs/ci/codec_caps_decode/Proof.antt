@@ -4,15 +4,12 @@ use Rattle.codec_exports.proofs.ci.codec_caps_decode.Statement.{stateme
 use Rattle.codec_exports.proofs.ci.codec_caps_decode.Tie as tie
 use Rattle.codec_exports.specs.Answers.{capsAnswerOf}
 
--- src/ci.rt:114:15
 decode-requires : tie.Need-decode-requires
 decode-requires c κs = search needs
 
--- src/ci.rt:114:5
 caps-read-requires : tie.Need-caps-read-requires
 caps-read-requires c κs = search needs
 
--- src/ci.rt:110:1
 returns : tie.Need-returns
 returns c = c .caps-read .ensures ∙ ap capsAnswerOf (c .before .decode .ensures)
 

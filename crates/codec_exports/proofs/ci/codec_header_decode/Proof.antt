@@ -4,15 +4,12 @@ use Rattle.codec_exports.proofs.ci.codec_header_decode.Statement.{state
 use Rattle.codec_exports.proofs.ci.codec_header_decode.Tie as tie
 use Rattle.codec_exports.specs.Answers.{headerAnswerOf}
 
--- src/ci.rt:85:17
 decode-requires : tie.Need-decode-requires
 decode-requires c κs = search needs
 
--- src/ci.rt:85:5
 header-read-requires : tie.Need-header-read-requires
 header-read-requires c κs = search needs
 
--- src/ci.rt:81:1
 returns : tie.Need-returns
 returns c = c .header-read .ensures ∙ ap headerAnswerOf (c .before .decode .ensures)
 

@@ -4,15 +4,12 @@ use Rattle.codec_exports.proofs.ci.codec_kind_of.Statement.{statement}
 use Rattle.codec_exports.proofs.ci.codec_kind_of.Tie as tie
 use Rattle.codec_exports.specs.Answers.{kindAnswerOf}
 
--- src/ci.rt:107:16
 kind-of-requires : tie.Need-kind-of-requires
 kind-of-requires c κs = search needs
 
--- src/ci.rt:107:5
 kind-found-requires : tie.Need-kind-found-requires
 kind-found-requires c κs = search needs
 
--- src/ci.rt:103:1
 returns : tie.Need-returns
 returns c = c .kind-found .ensures ∙ ap kindAnswerOf (c .before .kind-of .ensures)
 

@@ -4,15 +4,12 @@ use Rattle.codec_exports.proofs.ci.codec_message_decode.Statement.{stat
 use Rattle.codec_exports.proofs.ci.codec_message_decode.Tie as tie
 use Rattle.codec_exports.specs.Answers.{messageAnswerOf}
 
--- src/ci.rt:134:18
 decode-requires : tie.Need-decode-requires
 decode-requires c κs = search needs
 
--- src/ci.rt:134:5
 message-read-requires : tie.Need-message-read-requires
 message-read-requires c κs = search needs
 
--- src/ci.rt:130:1
 returns : tie.Need-returns
 returns c = c .message-read .ensures ∙ ap messageAnswerOf (c .before .decode .ensures)
 

@@ -3,23 +3,18 @@ use Rattle.codec_exports.proofs.ci.codec_message_encode.Statement.{stat
 use Rattle.codec_exports.proofs.ci.codec_message_encode.Tie as tie
 use Rattle.hub.proofs.AnswerLaws.{writes}
 
--- src/ci.rt:145:9
 header-in-requires : tie.Need-header-in-requires
 header-in-requires c κs = search needs
 
--- src/ci.rt:146:16
 encode-requires : tie.Need-encode-requires
 encode-requires c κs = search needs
 
--- src/ci.rt:146:5
 ci-encoded-requires : tie.Need-ci-encoded-requires
 ci-encoded-requires c κs = search needs
 
--- src/ci.rt:137:1
 same-length : tie.Need-same-length
 same-length c = search needs
 
--- src/ci.rt:137:1
 returns : tie.Need-returns
 returns c =
     let e = c .before .before .before in

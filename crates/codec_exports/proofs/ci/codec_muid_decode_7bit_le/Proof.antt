@@ -4,15 +4,12 @@ use Rattle.codec_exports.proofs.ci.codec_muid_decode_7bit_le.Statement.
 use Rattle.codec_exports.proofs.ci.codec_muid_decode_7bit_le.Tie as tie
 use Rattle.hub.specs.Answers.{answerOf}
 
--- src/ci.rt:71:15
 decode-7bit-le-requires : tie.Need-decode-7bit-le-requires
 decode-7bit-le-requires c κs = search needs
 
--- src/ci.rt:71:5
 muid-read-requires : tie.Need-muid-read-requires
 muid-read-requires c κs = search needs
 
--- src/ci.rt:67:1
 returns : tie.Need-returns
 returns c = c .muid-read .ensures ∙ ap answerOf (c .before .decode-7bit-le .ensures)
 

@@ -4,15 +4,12 @@ use Rattle.codec_exports.proofs.ci.codec_muid_from_u32.Statement.{state
 use Rattle.codec_exports.proofs.ci.codec_muid_from_u32.Tie as tie
 use Rattle.hub.specs.Answers.{answerOf}
 
--- src/ci.rt:36:15
 from-u32-requires : tie.Need-from-u32-requires
 from-u32-requires c κs = search needs
 
--- src/ci.rt:36:5
 muid-read-requires : tie.Need-muid-read-requires
 muid-read-requires c κs = search needs
 
--- src/ci.rt:32:1
 returns : tie.Need-returns
 returns c = c .muid-read .ensures ∙ ap answerOf (c .before .from-u32 .ensures)
 

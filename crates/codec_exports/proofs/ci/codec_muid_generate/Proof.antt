@@ -4,15 +4,12 @@ use Rattle.codec_exports.proofs.ci.codec_muid_generate.Statement.{state
 use Rattle.codec_exports.proofs.ci.codec_muid_generate.Tie as tie
 use Rattle.codec_exports.specs.Answers.{generatedAnswerOf}
 
--- src/ci.rt:78:15
 generate-requires : tie.Need-generate-requires
 generate-requires c κs = search needs
 
--- src/ci.rt:78:5
 generated-requires : tie.Need-generated-requires
 generated-requires c κs = search needs
 
--- src/ci.rt:74:1
 returns : tie.Need-returns
 returns c = c .generated .ensures ∙ ap generatedAnswerOf (c .before .generate .ensures)
 

@@ -4,15 +4,12 @@ use Rattle.codec_exports.proofs.ci.codec_muid_ordinary.Statement.{state
 use Rattle.codec_exports.proofs.ci.codec_muid_ordinary.Tie as tie
 use Rattle.hub.specs.Answers.{answerOf}
 
--- src/ci.rt:43:15
 ordinary-requires : tie.Need-ordinary-requires
 ordinary-requires c κs = search needs
 
--- src/ci.rt:43:5
 muid-read-requires : tie.Need-muid-read-requires
 muid-read-requires c κs = search needs
 
--- src/ci.rt:39:1
 returns : tie.Need-returns
 returns c = c .muid-read .ensures ∙ ap answerOf (c .before .ordinary .ensures)
 

@@ -3,19 +3,15 @@ use Rattle.codec_exports.proofs.pe.codec_mcoded7_encode.Statement.{stat
 use Rattle.codec_exports.proofs.pe.codec_mcoded7_encode.Tie as tie
 use Rattle.hub.proofs.AnswerLaws.{writes}
 
--- src/pe.rt:40:16
 encode-requires : tie.Need-encode-requires
 encode-requires c κs = search needs
 
--- src/pe.rt:40:5
 pe-encoded-requires : tie.Need-pe-encoded-requires
 pe-encoded-requires c κs = search needs
 
--- src/pe.rt:36:1
 same-length : tie.Need-same-length
 same-length c = search needs
 
--- src/pe.rt:36:1
 returns : tie.Need-returns
 returns c = writes _ _ _ _ (c .pe-encoded .ensures) (c .before .before .before .encode .ensures)
 

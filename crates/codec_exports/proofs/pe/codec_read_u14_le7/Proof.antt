@@ -4,15 +4,12 @@ use Rattle.codec_exports.proofs.pe.codec_read_u14_le7.Statement.{statem
 use Rattle.codec_exports.proofs.pe.codec_read_u14_le7.Tie as tie
 use Rattle.hub.specs.Answers.{answerOf}
 
--- src/pe.rt:19:14
 read-u14-le7-requires : tie.Need-read-u14-le7-requires
 read-u14-le7-requires c κs = search needs
 
--- src/pe.rt:19:5
 u14-read-requires : tie.Need-u14-read-requires
 u14-read-requires c κs = search needs
 
--- src/pe.rt:15:1
 returns : tie.Need-returns
 returns c = c .u14-read .ensures ∙ ap answerOf (c .before .read-u14-le7 .ensures)
 

@@ -3,19 +3,15 @@ use Rattle.codec_exports.proofs.pe.codec_rewrite.Statement.{statement}
 use Rattle.codec_exports.proofs.pe.codec_rewrite.Tie as tie
 use Rattle.hub.proofs.AnswerLaws.{writes}
 
--- src/pe.rt:33:16
 rewrite-requires : tie.Need-rewrite-requires
 rewrite-requires c κs = search needs
 
--- src/pe.rt:33:5
 pe-encoded-requires : tie.Need-pe-encoded-requires
 pe-encoded-requires c κs = search needs
 
--- src/pe.rt:29:1
 same-length : tie.Need-same-length
 same-length c = search needs
 
--- src/pe.rt:29:1
 returns : tie.Need-returns
 returns c = writes _ _ _ _ (c .pe-encoded .ensures) (c .before .before .before .rewrite .ensures)
 

@@ -3,19 +3,15 @@ use Rattle.codec_exports.proofs.pe.codec_write_u14_le7.Statement.{state
 use Rattle.codec_exports.proofs.pe.codec_write_u14_le7.Tie as tie
 use Rattle.hub.proofs.AnswerLaws.{writes}
 
--- src/pe.rt:26:16
 write-u14-le7-requires : tie.Need-write-u14-le7-requires
 write-u14-le7-requires c κs = search needs
 
--- src/pe.rt:26:5
 pe-encoded-requires : tie.Need-pe-encoded-requires
 pe-encoded-requires c κs = search needs
 
--- src/pe.rt:22:1
 same-length : tie.Need-same-length
 same-length c = search needs
 
--- src/pe.rt:22:1
 returns : tie.Need-returns
 returns c = writes _ _ _ _ (c .pe-encoded .ensures) (c .before .before .before .write-u14-le7 .ensures)
 

@@ -11,43 +11,33 @@ use Rattle.hub.proofs.AnswerLaws.{matched}
 abbrev tells : Fed → FedAnswer
 tells a = fedAnswerOf (fedTold a)
 
--- src/answer.rt:140:25
 enum-told : tie.Need-enum-told
 enum-told c = search needs
 
--- src/answer.rt:140:25
 fed-part-requires : tie.Need-fed-part-requires
 fed-part-requires c κs = search needs
 
--- src/answer.rt:141:20
 enum-known-a : tie.Need-enum-known-a
 enum-known-a c = search needs
 
--- src/answer.rt:148:22
 enum-known-a-2 : tie.Need-enum-known-a-2
 enum-known-a-2 c = search needs
 
--- src/answer.rt:148:37
 number-requires : tie.Need-number-requires
 number-requires c κs = search needs
 
--- src/answer.rt:148:49
 value-requires : tie.Need-value-requires
 value-requires c κs = search needs
 
--- src/answer.rt:148:28
 fed-part-requires-2 : tie.Need-fed-part-requires-2
 fed-part-requires-2 c κs = search needs
 
--- src/answer.rt:136:1
 returns : tie.Need-returns
 returns c = matched tells (c .before .enum-told .given .1) (c .fed-part .ensures)
 
--- src/answer.rt:136:1
 returns-2 : tie.Need-returns-2
 returns-2 c = matched tells (c .before .a .given .1) refl
 
--- src/answer.rt:136:1
 returns-3 : tie.Need-returns-3
 returns-3 c = matched tells (c .before .before .before .before .a2 .given .1) (rw (c .fed-part2 .ensures, c .before .value .ensures, c .before .before .number .ensures))
 

@@ -10,27 +10,21 @@ use Rattle.hub.proofs.AnswerLaws.{matched}
 abbrev tells : Made → Answer
 tells a = answerOf (madeTold a)
 
--- src/answer.rt:99:23
 enum-told : tie.Need-enum-told
 enum-told c = search needs
 
--- src/answer.rt:99:23
 counted-requires : tie.Need-counted-requires
 counted-requires c κs = search needs
 
--- src/answer.rt:100:23
 enum-known-a : tie.Need-enum-known-a
 enum-known-a c = search needs
 
--- src/answer.rt:100:29
 pe-refused-requires : tie.Need-pe-refused-requires
 pe-refused-requires c κs = search needs
 
--- src/answer.rt:95:1
 returns : tie.Need-returns
 returns c = matched tells (c .before .enum-told .given .1) (c .counted .ensures)
 
--- src/answer.rt:95:1
 returns-2 : tie.Need-returns-2
 returns-2 c = matched tells (c .before .before .a .given .1) (c .pe-refused .ensures)
 

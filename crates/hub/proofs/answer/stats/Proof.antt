@@ -11,27 +11,21 @@ use Rattle.hub.proofs.AnswerLaws.{matched}
 abbrev tells : Stats → StatsAnswer
 tells a = statsAnswerOf (statsTold a)
 
--- src/answer.rt:156:23
 enum-known-a : tie.Need-enum-known-a
 enum-known-a c = search needs
 
--- src/answer.rt:163:24
 enum-known-a-2 : tie.Need-enum-known-a-2
 enum-known-a-2 c = search needs
 
--- src/answer.rt:164:22
 number-requires : tie.Need-number-requires
 number-requires c κs = search needs
 
--- src/answer.rt:165:20
 value-requires : tie.Need-value-requires
 value-requires c κs = search needs
 
--- src/answer.rt:152:1
 returns : tie.Need-returns
 returns c = matched tells (c .before .a .given .1) refl
 
--- src/answer.rt:152:1
 returns-2 : tie.Need-returns-2
 returns-2 c = matched tells (c .before .before .before .a2 .given .1) (rw (c .value .ensures, c .before .number .ensures))
 

@@ -4,15 +4,12 @@ use Rattle.hub.proofs.chunks.midici_pe_chunk_count.Statement.{statement
 use Rattle.hub.proofs.chunks.midici_pe_chunk_count.Tie as tie
 use Rattle.hub.specs.Answers.{answerOf}
 
--- src/chunks.rt:23:20
 chunk-count-requires : tie.Need-chunk-count-requires
 chunk-count-requires c κs = search needs
 
--- src/chunks.rt:23:5
 chunks-counted-requires : tie.Need-chunks-counted-requires
 chunks-counted-requires c κs = search needs
 
--- src/chunks.rt:14:1
 returns : tie.Need-returns
 returns c = c .chunks-counted .ensures ∙ ap answerOf (c .before .chunk-count .ensures)
 

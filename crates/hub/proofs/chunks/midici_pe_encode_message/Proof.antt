@@ -3,19 +3,15 @@ use Rattle.hub.proofs.chunks.midici_pe_encode_message.Statement.{statem
 use Rattle.hub.proofs.chunks.midici_pe_encode_message.Tie as tie
 use Rattle.hub.proofs.AnswerLaws.{writes}
 
--- src/chunks.rt:56:16
 encode-message-requires : tie.Need-encode-message-requires
 encode-message-requires c κs = search needs
 
--- src/chunks.rt:56:5
 pe-encoded-requires : tie.Need-pe-encoded-requires
 pe-encoded-requires c κs = search needs
 
--- src/chunks.rt:42:1
 same-length : tie.Need-same-length
 same-length c = search needs
 
--- src/chunks.rt:42:1
 returns : tie.Need-returns
 returns c = writes _ _ _ _ (c .pe-encoded .ensures) (c .before .before .before .encode-message .ensures)
 

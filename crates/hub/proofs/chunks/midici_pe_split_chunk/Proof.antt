@@ -3,19 +3,15 @@ use Rattle.hub.proofs.chunks.midici_pe_split_chunk.Statement.{statement
 use Rattle.hub.proofs.chunks.midici_pe_split_chunk.Tie as tie
 use Rattle.hub.proofs.AnswerLaws.{writes}
 
--- src/chunks.rt:38:16
 split-chunk-requires : tie.Need-split-chunk-requires
 split-chunk-requires c κs = search needs
 
--- src/chunks.rt:38:5
 pe-encoded-requires : tie.Need-pe-encoded-requires
 pe-encoded-requires c κs = search needs
 
--- src/chunks.rt:27:1
 same-length : tie.Need-same-length
 same-length c = search needs
 
--- src/chunks.rt:27:1
 returns : tie.Need-returns
 returns c = writes _ _ _ _ (c .pe-encoded .ensures) (c .before .before .before .split-chunk .ensures)
 

@@ -4,11 +4,9 @@ use Rattle.hub.proofs.controller.midici_pe_alloc_out_request_id.Stateme
 use Rattle.hub.proofs.controller.midici_pe_alloc_out_request_id.Tie as tie
 use Rattle.pe_controller.specs.declared.Allocated.{Allocated}
 
--- src/controller.rt:19:9
 alloc-out-request-id-requires : tie.Need-alloc-out-request-id-requires
 alloc-out-request-id-requires c κs = search needs
 
--- src/controller.rt:14:1
 returns : tie.Need-returns
 returns c = ap (λ (a : Allocated). record { «request_id» = a .«request_id»; counter = a .counter .next }) (c .alloc-out-request-id .ensures)
 

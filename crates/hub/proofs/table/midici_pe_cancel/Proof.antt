@@ -8,23 +8,18 @@ use Rattle.hub.proofs.AnswerLaws.{leaves}
 abbrev called : tie.After-cancelled → tie.After-cancel
 called c = c .before .before .before
 
--- src/table.rt:135:9
 shape-of-requires : tie.Need-shape-of-requires
 shape-of-requires c κs = search needs
 
--- src/table.rt:136:15
 cancel-requires : tie.Need-cancel-requires
 cancel-requires c κs = search needs
 
--- src/table.rt:136:5
 cancelled-requires : tie.Need-cancelled-requires
 cancelled-requires c κs = search needs
 
--- src/table.rt:123:1
 same-length : tie.Need-same-length
 same-length c = search needs
 
--- src/table.rt:123:1
 returns : tie.Need-returns
 returns c =
     rw (sym (called c .before .before .shape-of .ensures))

@@ -8,23 +8,18 @@ use Rattle.hub.proofs.AnswerLaws.{leaves}
 abbrev called : tie.After-number-counted → tie.After-drop-peer
 called c = c .before .before .before
 
--- src/table.rt:151:9
 shape-of-requires : tie.Need-shape-of-requires
 shape-of-requires c κs = search needs
 
--- src/table.rt:152:20
 drop-peer-requires : tie.Need-drop-peer-requires
 drop-peer-requires c κs = search needs
 
--- src/table.rt:152:5
 number-counted-requires : tie.Need-number-counted-requires
 number-counted-requires c κs = search needs
 
--- src/table.rt:140:1
 same-length : tie.Need-same-length
 same-length c = search needs
 
--- src/table.rt:140:1
 returns : tie.Need-returns
 returns c =
     rw (sym (called c .before .before .shape-of .ensures))

@@ -8,43 +8,33 @@ use Rattle.hub.proofs.AnswerLaws.{leaves}
 abbrev called : tie.After-fed → tie.After-feed
 called c = c .before .before .before .before .before .before .before .before .before .before .before .before .before
 
--- src/table.rt:75:9
 shape-of-requires : tie.Need-shape-of-requires
 shape-of-requires c κs = search needs
 
--- src/table.rt:76:9
 feed-requires : tie.Need-feed-requires
 feed-requires c κs = search needs
 
--- src/table.rt:76:5
 fed-requires : tie.Need-fed-requires
 fed-requires c κs = search needs
 
--- src/table.rt:57:1
 same-length : tie.Need-same-length
 same-length c = search needs
 
--- src/table.rt:57:1
 same-length-2 : tie.Need-same-length-2
 same-length-2 c = search needs
 
--- src/table.rt:57:1
 same-length-3 : tie.Need-same-length-3
 same-length-3 c = search needs
 
--- src/table.rt:57:1
 same-length-4 : tie.Need-same-length-4
 same-length-4 c = search needs
 
--- src/table.rt:57:1
 same-length-5 : tie.Need-same-length-5
 same-length-5 c = search needs
 
--- src/table.rt:57:1
 same-length-6 : tie.Need-same-length-6
 same-length-6 c = search needs
 
--- src/table.rt:57:1
 returns : tie.Need-returns
 returns c =
     rw (sym (called c .before .before .before .before .before .before .before .shape-of .ensures))

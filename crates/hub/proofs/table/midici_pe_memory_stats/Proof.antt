@@ -4,19 +4,15 @@ use Rattle.hub.proofs.table.midici_pe_memory_stats.Tie as tie
 use mathlib.Core.Path.{sym, ap, _∙_}
 use Rattle.hub.specs.Answers.{statsAnswerOf}
 
--- src/table.rt:202:9
 shape-of-requires : tie.Need-shape-of-requires
 shape-of-requires c κs = search needs
 
--- src/table.rt:203:11
 memory-stats-requires : tie.Need-memory-stats-requires
 memory-stats-requires c κs = search needs
 
--- src/table.rt:203:5
 stats-requires : tie.Need-stats-requires
 stats-requires c κs = search needs
 
--- src/table.rt:192:1
 returns : tie.Need-returns
 returns c =
     rw (sym (c .before .before .shape-of .ensures))

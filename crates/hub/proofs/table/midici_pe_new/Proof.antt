@@ -8,27 +8,21 @@ use Rattle.hub.proofs.AnswerLaws.{leaves}
 abbrev called : tie.After-made → tie.After-new
 called c = c .before .before .before .before .before
 
--- src/table.rt:52:9
 shape-of-requires : tie.Need-shape-of-requires
 shape-of-requires c κs = search needs
 
--- src/table.rt:53:10
 new-requires : tie.Need-new-requires
 new-requires c κs = search needs
 
--- src/table.rt:53:5
 made-requires : tie.Need-made-requires
 made-requires c κs = search needs
 
--- src/table.rt:39:1
 same-length : tie.Need-same-length
 same-length c = search needs
 
--- src/table.rt:39:1
 same-length-2 : tie.Need-same-length-2
 same-length-2 c = search needs
 
--- src/table.rt:39:1
 returns : tie.Need-returns
 returns c =
     rw (sym (called c .before .before .before .shape-of .ensures))

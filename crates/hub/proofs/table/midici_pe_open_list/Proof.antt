@@ -7,31 +7,24 @@ use Rattle.hub.proofs.AnswerLaws.{lists}
 abbrev called : tie.After-number-counted → tie.After-open-list
 called c = c .before .before .before .before .before .before .before
 
--- src/table.rt:187:9
 shape-of-requires : tie.Need-shape-of-requires
 shape-of-requires c κs = search needs
 
--- src/table.rt:188:20
 open-list-requires : tie.Need-open-list-requires
 open-list-requires c κs = search needs
 
--- src/table.rt:188:5
 number-counted-requires : tie.Need-number-counted-requires
 number-counted-requires c κs = search needs
 
--- src/table.rt:174:1
 same-length : tie.Need-same-length
 same-length c = search needs
 
--- src/table.rt:174:1
 same-length-2 : tie.Need-same-length-2
 same-length-2 c = search needs
 
--- src/table.rt:174:1
 same-length-3 : tie.Need-same-length-3
 same-length-3 c = search needs
 
--- src/table.rt:174:1
 returns : tie.Need-returns
 returns c =
     rw (sym (called c .before .before .before .before .shape-of .ensures))

@@ -8,31 +8,24 @@ use Rattle.hub.proofs.AnswerLaws.{leaves}
 abbrev called : tie.After-number-counted → tie.After-poll
 called c = c .before .before .before .before .before .before .before
 
--- src/table.rt:169:9
 shape-of-requires : tie.Need-shape-of-requires
 shape-of-requires c κs = search needs
 
--- src/table.rt:170:20
 poll-requires : tie.Need-poll-requires
 poll-requires c κs = search needs
 
--- src/table.rt:170:5
 number-counted-requires : tie.Need-number-counted-requires
 number-counted-requires c κs = search needs
 
--- src/table.rt:156:1
 same-length : tie.Need-same-length
 same-length c = search needs
 
--- src/table.rt:156:1
 same-length-2 : tie.Need-same-length-2
 same-length-2 c = search needs
 
--- src/table.rt:156:1
 same-length-3 : tie.Need-same-length-3
 same-length-3 c = search needs
 
--- src/table.rt:156:1
 returns : tie.Need-returns
 returns c =
     rw (sym (called c .before .before .before .before .shape-of .ensures))

@@ -12,19 +12,15 @@ Inv-loop sub-id2 i₀ i = (i ≤ 9) × (found sub-id2 table ≡ found sub-id2 (d
 abbrev μ-loop : tie.MeasureT-loop
 μ-loop sub-id2 i₀ i = 9 - i
 
--- src/spec.rt:45:5
 loop-holds : tie.Need-loop-holds Inv-loop μ-loop
 loop-holds c = (search needs, refl)
 
--- src/spec.rt:46:17
 mul-k : tie.Need-mul-k Inv-loop μ-loop
 mul-k c = search needs
 
--- src/spec.rt:46:17
 array-copy-out-k : tie.Need-array-copy-out-k Inv-loop μ-loop
 array-copy-out-k c = search needs
 
--- src/spec.rt:48:13
 returns : tie.Need-returns Inv-loop μ-loop
 unfolding table
 returns c =
@@ -32,15 +28,12 @@ returns c =
     let a = c .before .before .before .before .before .args in
     sym (sym (table-rule (a .sub-id2) (search needs)) ∙ l .inv .1 ∙ found-here (a .sub-id2) table (l .i) _ (search needs) (c .if1 .taken))
 
--- src/spec.rt:50:9
 add-i : tie.Need-add-i Inv-loop μ-loop
 add-i c = search needs
 
--- src/spec.rt:45:5
 loop-less : tie.Need-loop-less Inv-loop μ-loop
 loop-less c = search needs
 
--- src/spec.rt:45:5
 loop-again : tie.Need-loop-again Inv-loop μ-loop
 unfolding table
 loop-again c =
@@ -48,7 +41,6 @@ loop-again c =
     let a = c .before .before .before .before .before .args in
     (search needs, l .inv .1 ∙ found-next (a .sub-id2) table (l .i) _ (search needs) (c .if1 .left))
 
--- src/spec.rt:41:1
 returns-2 : tie.Need-returns-2 Inv-loop μ-loop
 unfolding table
 returns-2 c =

@@ -4,15 +4,12 @@ use Rattle.pe_controller.proofs.RequestCounter.alloc_out_request_id.Sta
 use Rattle.pe_controller.proofs.RequestCounter.alloc_out_request_id.Tie as tie
 use Rattle.pe_controller.proofs.ControllerLaws.{step-zero, step-other}
 
--- src/lib.rt:27:20
 wrapping-add-u8-requires : tie.Need-wrapping-add-u8-requires
 wrapping-add-u8-requires c κs = search needs
 
--- src/lib.rt:24:5
 returns : tie.Need-returns
 returns c = rw (step-zero (c .before .before .args .self .next) (c .before .wrapping-add-u8 .result) (omega arith) (c .if1 .taken))
 
--- src/lib.rt:24:5
 returns-2 : tie.Need-returns-2
 returns-2 c = rw (step-other (c .before .before .args .self .next) (c .before .wrapping-add-u8 .result) (omega arith) (c .if1 .left))
 

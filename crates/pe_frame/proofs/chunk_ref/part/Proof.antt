@@ -7,23 +7,18 @@ use native.Mathlib.Nat.{add-sub-cancel-left}
 use denote.Ref.{now}
 use Rattle.seven_bit.specs.Parts.{part}
 
--- src/chunk_ref.rt:30:15
 add-end : tie.Need-add-end
 add-end c = search needs
 
--- src/chunk_ref.rt:31:5
 sub-result : tie.Need-sub-result
 sub-result c = search needs
 
--- src/chunk_ref.rt:31:5
 part-result-start : tie.Need-part-result-start
 part-result-start c = search needs
 
--- src/chunk_ref.rt:31:5
 part-result-end : tie.Need-part-result-end
 part-result-end c = search needs
 
--- src/chunk_ref.rt:26:1
 returns : tie.Need-returns
 returns c =
     let a = c .before .args in

@@ -18,35 +18,28 @@ read c = sym (c .before .before .decode-fields .ensures) ∙ ap chunkTold (c .f 
 abbrev again : tie.Start → Reply Fields → Outcome
 again c r = writing (andThen r (λ f. writeChunk (chunkOf (now (c .args .«data»)) f) (length (now (c .args .out))))) (now (c .args .out))
 
--- src/chunk_ref.rt:118:11
 decode-fields-requires : tie.Need-decode-fields-requires
 decode-fields-requires c κs = search needs
 
--- src/chunk_ref.rt:119:28
 enum-known-e : tie.Need-enum-known-e
 enum-known-e c = search needs
 
--- src/chunk_ref.rt:120:26
 enum-known-f : tie.Need-enum-known-f
 enum-known-f c = search needs
 
--- src/chunk_ref.rt:120:32
 rewrite-at-requires : tie.Need-rewrite-at-requires
 rewrite-at-requires c κs =
     let t = read-told _ _ (read (c .before .before)) in
     omega (arith, t .long, t .at)
 
--- src/chunk_ref.rt:115:1
 returns : tie.Need-returns
 returns c =
     let e = sym (c .before .before .before .decode-fields .ensures) ∙ ap chunkTold (c .before .e .given .1) in
     ap (again (c .before .before .before .before .before .before)) (sym e)
 
--- src/chunk_ref.rt:115:1
 same-length : tie.Need-same-length
 same-length c = search needs
 
--- src/chunk_ref.rt:115:1
 returns-2 : tie.Need-returns-2
 returns-2 c = c .before .before .rewrite-at .ensures ∙ ap (again (c .before .before .before .before .before .before .before .before .before .before)) (sym (read (c .before .before .before .before .before)))
 

@@ -41,72 +41,56 @@ behind c =
 first : (c : tie.Joined4) → (eqb (c .before .before .before .before .u14-at2 .result) 1 || eqb (start (up (c .before .before .before)) .args .nh) 0) ≡ true
 first c = ⊎-elim (λ w. rw (eq-eqb _ _ (w .1 .left)) (or-true (eqb (c .before .before .before .before .u14-at2 .result) 1))) (λ w. rw (eq-eqb _ _ (w .left))) (c .if4 .came)
 
--- src/frame.rt:66:23
 add-low-six : tie.Need-add-low-six
 add-low-six c = search needs
 
--- src/frame.rt:66:9
 low-six-requires : tie.Need-low-six-requires
 low-six-requires c κs = search needs
 
--- src/frame.rt:67:9
 returns : tie.Need-returns
 returns c =
     let a = c .before .before .before in
     let f : isSevenBit (part (3 + a .args .nh) 6 (bytes a)) ≡ false = sym (c .before .low-six .ensures) ∙ not-true _ (c .if1 .taken) in
     rw (left a, f)
 
--- src/frame.rt:69:35
 add-u14-at : tie.Need-add-u14-at
 add-u14-at c = search needs
 
--- src/frame.rt:69:9
 u14-at-requires : tie.Need-u14-at-requires
 u14-at-requires c κs = search needs
 
--- src/frame.rt:70:34
 add-u14-at-2 : tie.Need-add-u14-at-2
 add-u14-at-2 c = search needs
 
--- src/frame.rt:70:9
 u14-at-requires-2 : tie.Need-u14-at-requires-2
 u14-at-requires-2 c κs = search needs
 
--- src/frame.rt:71:27
 add-u14-at-3 : tie.Need-add-u14-at-3
 add-u14-at-3 c = search needs
 
--- src/frame.rt:71:14
 u14-at-requires-3 : tie.Need-u14-at-requires-3
 u14-at-requires-3 c κs = search needs
 
--- src/frame.rt:71:14
 cast-nd : tie.Need-cast-nd
 cast-nd c = search needs
 
--- src/frame.rt:72:23
 add-property-at : tie.Need-add-property-at
 add-property-at c = search needs
 
--- src/frame.rt:73:21
 add-if2 : tie.Need-add-if2
 add-if2 c = search needs
 
--- src/frame.rt:74:9
 returns-2 : tie.Need-returns-2
 unfolding readEnd
 returns-2 c = rw (behind (c .before), lt-leb _ _ (c .if2 .taken))
 
--- src/frame.rt:76:8
 add-if3 : tie.Need-add-if3
 add-if3 c = search needs
 
--- src/frame.rt:77:9
 returns-3 : tie.Need-returns-3
 unfolding readEnd
 returns-3 c = rw (behind (c .before .before), le-leb _ _ (c .before .if2 .left), lt-leb _ _ (c .if3 .taken))
 
--- src/frame.rt:82:13
 returns-4 : tie.Need-returns-4
 unfolding readEnd
 returns-4 c =
@@ -118,11 +102,9 @@ returns-4 c =
       ne-eqb _ _ (c .if5 .taken),
     )
 
--- src/frame.rt:86:21
 shared-slice-read-t18 : tie.Need-shared-slice-read-t18
 shared-slice-read-t18 c = search needs
 
--- src/frame.rt:62:1
 returns-5 : tie.Need-returns-5
 unfolding readEnd
 returns-5 c =

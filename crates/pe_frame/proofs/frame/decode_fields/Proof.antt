@@ -36,25 +36,20 @@ header c =
     let v = c .before .before .before in
     c .all-seven-bit .ensures ∙ ap (λ (k : ℕ). isSevenBit (part 3 k (bytes (start (up v))))) (add-sub-cancel-left 3 (v .u14-at .result))
 
--- src/frame.rt:99:9
 returns : tie.Need-returns
 unfolding readFields
 returns c = rw (lt-leb _ _ (c .if1 .taken))
 
--- src/frame.rt:101:8
 shared-slice-read-if2 : tie.Need-shared-slice-read-if2
 shared-slice-read-if2 c = search needs
 
--- src/frame.rt:102:9
 returns-2 : tie.Need-returns-2
 unfolding readFields
 returns-2 c = rw (le-leb _ _ (c .before .before .if1 .left), lt-leb _ _ (c .if2 .taken))
 
--- src/frame.rt:104:9
 low-two-requires : tie.Need-low-two-requires
 low-two-requires c κs = search needs
 
--- src/frame.rt:105:9
 returns-3 : tie.Need-returns-3
 unfolding readFields
 returns-3 c =
@@ -63,19 +58,15 @@ returns-3 c =
     let f : isSevenBit (part 1 2 s) ≡ false = sym (c .before .low-two .ensures) ∙ not-true _ (c .if3 .taken) in
     rw (le-leb _ _ (d .before .before .if1 .left), le-leb _ _ (d .if2 .left), read-at s 1 (search needs), f)
 
--- src/frame.rt:107:14
 u14-at-requires : tie.Need-u14-at-requires
 u14-at-requires c κs = search needs
 
--- src/frame.rt:107:14
 cast-nh : tie.Need-cast-nh
 cast-nh c = search needs
 
--- src/frame.rt:108:21
 add-if4 : tie.Need-add-if4
 add-if4 c = search needs
 
--- src/frame.rt:109:9
 returns-4 : tie.Need-returns-4
 unfolding readFields
 returns-4 c =
@@ -83,27 +74,21 @@ returns-4 c =
     let d = up v in
     rw (le-leb _ _ (d .before .before .if1 .left), le-leb _ _ (d .if2 .left), size v, lt-leb _ _ (c .if4 .taken))
 
--- src/frame.rt:111:22
 add-header-end : tie.Need-add-header-end
 add-header-end c = search needs
 
--- src/frame.rt:112:34
 sub-all-seven-bit : tie.Need-sub-all-seven-bit
 sub-all-seven-bit c = search needs
 
--- src/frame.rt:112:34
 part-all-seven-bit-start : tie.Need-part-all-seven-bit-start
 part-all-seven-bit-start c = search needs
 
--- src/frame.rt:112:34
 part-all-seven-bit-end : tie.Need-part-all-seven-bit-end
 part-all-seven-bit-end c = search needs
 
--- src/frame.rt:112:9
 all-seven-bit-requires : tie.Need-all-seven-bit-requires
 all-seven-bit-requires c κs = search needs
 
--- src/frame.rt:113:9
 returns-5 : tie.Need-returns-5
 unfolding readFields
 returns-5 c =
@@ -112,13 +97,11 @@ returns-5 c =
     let f = sym (header (c .before)) ∙ not-true _ (c .if5 .taken) in
     rw (le-leb _ _ (d .before .before .if1 .left), le-leb _ _ (d .if2 .left), size v, le-leb _ _ (c .before .before .before .if4 .left), f)
 
--- src/frame.rt:115:5
 decode-counts-requires : tie.Need-decode-counts-requires
 decode-counts-requires c κs =
     let v = c .before .before .before .before in
     (c .before .before .before .if4 .left, up v .if2 .left, size v, sym (header (c .before)) ∙ not-false _ (c .if5 .left))
 
--- src/frame.rt:95:1
 returns-6 : tie.Need-returns-6
 returns-6 c = search needs
 

@@ -31,43 +31,35 @@ told c = ask-told (chunk (start c)) _ _ (sym (c .before .before .questions .ensu
 need : (c : tie.After-answer) → size (start c) ≡ c .answer .given .0 .0
 need c = same-grant _ _ _ refl (told c .1)
 
--- src/frame.rt:195:9
 questions-requires : tie.Need-questions-requires
 questions-requires c κs = search needs
 
--- src/frame.rt:196:24
 enum-known-answer : tie.Need-enum-known-answer
 enum-known-answer c = search needs
 
--- src/frame.rt:197:9
 enum-told : tie.Need-enum-told
 enum-told c = search needs
 
--- src/frame.rt:197:9
 returns : tie.Need-returns
 returns c =
     let g = c .enum-told .given .1 in
     let e = sym (c .before .before .questions .ensures) ∙ ap encodedTold g in
     rw (write-refused (chunk (c .before .before .before .before .before .before)) _ _ _ _ e) (ap (λ (r : Encoded). outcome (encodedTold r) (now (c .before .before .before .before .before .before .args .out))) g)
 
--- src/frame.rt:200:9
 returns-2 : tie.Need-returns-2
 returns-2 c =
     let n = c .before .before in
     rw (write-short (chunk (start n)) (length (now (start n .args .out))) (told n .0) (omega (arith, need n, c .if1 .taken)))
 
--- src/frame.rt:202:5
 fill-requires : tie.Need-fill-requires
 fill-requires c κs =
     let n = c .before .before .before in
     let r = told n .0 in
     (r .header-len, r .property-len, r .count, r .number, omega (arith, need n, c .before .if1 .left))
 
--- src/frame.rt:185:1
 same-length : tie.Need-same-length
 same-length c = ap length (c .before .before .fill .ensures) ∙ length-put (now (start (c .before .before .before .before .before .before) .args .out)) _ _
 
--- src/frame.rt:185:1
 returns-3 : tie.Need-returns-3
 unfolding chunkLen
 returns-3 c =

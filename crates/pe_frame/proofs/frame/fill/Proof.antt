@@ -75,86 +75,68 @@ step6 c =
     let l = length-length (chunk a) in
     c .copy-in2 .ensures ∙ fit-on (lent a) _ (up-to-length (chunk a)) (now (a .args .property)) (a .args .at) _ (step5 (c .before .before .before .before)) (omega (arith, l)) (omega (arith, a .pre))
 
--- src/frame.rt:174:5
 slice-write-out : tie.Need-slice-write-out
 slice-write-out c = search needs
 
--- src/frame.rt:175:18
 add-put-u14 : tie.Need-add-put-u14
 add-put-u14 c = search needs
 
--- src/frame.rt:175:26
 cast-put-u14 : tie.Need-cast-put-u14
 cast-put-u14 c = search needs
 
--- src/frame.rt:175:5
 put-u14-requires : tie.Need-put-u14-requires
 put-u14-requires c κs = simp length-set (omega arith)
 
--- src/frame.rt:176:29
 add-copy-in : tie.Need-add-copy-in
 add-copy-in c = search needs
 
--- src/frame.rt:176:5
 copy-in-requires : tie.Need-copy-in-requires
 copy-in-requires c κs = search needs
 
--- src/frame.rt:177:18
 add-behind : tie.Need-add-behind
 add-behind c = search needs
 
--- src/frame.rt:177:18
 add-behind-2 : tie.Need-add-behind-2
 add-behind-2 c = search needs
 
--- src/frame.rt:178:5
 put-u14-requires-2 : tie.Need-put-u14-requires-2
 put-u14-requires-2 c κs =
     let d = c .before .before .before in
     let l = ap length (step2 d) ∙ length-put (lent (up2 d)) _ _ in
     omega (arith, l, up2 d .pre)
 
--- src/frame.rt:179:18
 add-put-u14-2 : tie.Need-add-put-u14-2
 add-put-u14-2 c = search needs
 
--- src/frame.rt:179:5
 put-u14-requires-3 : tie.Need-put-u14-requires-3
 put-u14-requires-3 c κs =
     let d = c .before .before .before in
     let l = ap length (step3 d) ∙ length-put (lent (up3 d)) _ _ in
     omega (arith, l, up3 d .pre)
 
--- src/frame.rt:180:18
 add-put-u14-3 : tie.Need-add-put-u14-3
 add-put-u14-3 c = search needs
 
--- src/frame.rt:180:30
 cast-put-u14-2 : tie.Need-cast-put-u14-2
 cast-put-u14-2 c = search needs
 
--- src/frame.rt:180:5
 put-u14-requires-4 : tie.Need-put-u14-requires-4
 put-u14-requires-4 c κs =
     let d = c .before .before .before in
     let l = ap length (step4 d) ∙ length-put (lent (up4 d)) _ _ in
     omega (arith, l, up4 d .pre)
 
--- src/frame.rt:181:29
 add-copy-in-2 : tie.Need-add-copy-in-2
 add-copy-in-2 c = search needs
 
--- src/frame.rt:181:5
 copy-in-requires-2 : tie.Need-copy-in-requires-2
 copy-in-requires-2 c κs = search needs
 
--- src/frame.rt:162:1
 same-length : tie.Need-same-length
 same-length c =
     let d = c .before .before in
     ap length (step6 d) ∙ length-put (lent (up6 d)) _ _
 
--- src/frame.rt:162:1
 returns : tie.Need-returns
 returns c =
     let d = c .before .before in

@@ -4,19 +4,15 @@ use Rattle.pe_frame.proofs.frame.low_two.Statement.{statement}
 use Rattle.pe_frame.proofs.frame.low_two.Tie as tie
 use Rattle.pe_frame.proofs.FieldLaws.{low-two}
 
--- src/frame.rt:50:6
 shared-slice-read-result : tie.Need-shared-slice-read-result
 shared-slice-read-result c = search needs
 
--- src/frame.rt:50:22
 add-result : tie.Need-add-result
 add-result c = search needs
 
--- src/frame.rt:50:17
 shared-slice-read-result-2 : tie.Need-shared-slice-read-result-2
 shared-slice-read-result-2 c = search needs
 
--- src/frame.rt:46:1
 returns : tie.Need-returns
 returns c = sym (low-two _ _ (c .before .before .pre))
 

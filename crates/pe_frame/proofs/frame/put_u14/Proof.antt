@@ -14,27 +14,21 @@ use Rattle.seven_bit.proofs.PartLaws.{put-rest}
 use Rattle.seven_bit.proofs.SevenBitLaws.{bytes-length}
 use Rattle.pe_wire.proofs.WireLaws.{write-value}
 
--- src/frame.rt:158:22
 sub-write-u14-le7 : tie.Need-sub-write-u14-le7
 sub-write-u14-le7 c = search needs
 
--- src/frame.rt:158:22
 part-write-u14-le7-start : tie.Need-part-write-u14-le7-start
 part-write-u14-le7-start c = search needs
 
--- src/frame.rt:158:22
 part-write-u14-le7-end : tie.Need-part-write-u14-le7-end
 part-write-u14-le7-end c = search needs
 
--- src/frame.rt:158:5
 write-u14-le7-requires : tie.Need-write-u14-le7-requires
 write-u14-le7-requires c κs = search needs
 
--- src/frame.rt:154:1
 same-length : tie.Need-same-length
 same-length c = search needs
 
--- src/frame.rt:154:1
 returns : tie.Need-returns
 returns c =
     let a = c .before .before .before .before .before .args in

@@ -23,46 +23,37 @@ bytes c = sym (c .before .all-seven-bit .ensures) ∙ not-false _ (c .if6 .left)
 first : (c : tie.Joined7) → (eqb (start (c .before .before .before) .args .chunk-num) 1 || eqb (length (now (start (c .before .before .before) .args .header))) 0) ≡ true
 first c = ⊎-elim (λ w. rw (eq-eqb _ _ (w .1 .left)) (or-true (eqb (start (c .before .before .before) .args .chunk-num) 1))) (λ w. rw (eq-eqb _ _ (w .left))) (c .if7 .came)
 
--- src/frame.rt:128:9
 returns : tie.Need-returns
 unfolding askChunk
 returns c = rw (lt-leb _ _ (c .if1 .taken))
 
--- src/frame.rt:130:23
 cast-if2 : tie.Need-cast-if2
 cast-if2 c = search needs
 
--- src/frame.rt:131:9
 returns-2 : tie.Need-returns-2
 unfolding askChunk
 returns-2 c = rw (le-leb _ _ (c .before .if1 .left), lt-leb _ _ (c .if2 .taken))
 
--- src/frame.rt:133:25
 cast-if3 : tie.Need-cast-if3
 cast-if3 c = search needs
 
--- src/frame.rt:134:9
 returns-3 : tie.Need-returns-3
 unfolding askChunk
 returns-3 c = rw (le-leb _ _ (c .before .before .if1 .left), le-leb _ _ (c .before .if2 .left), lt-leb _ _ (c .if3 .taken))
 
--- src/frame.rt:137:9
 returns-4 : tie.Need-returns-4
 unfolding askChunk
 returns-4 c = rw (le-leb _ _ (c .before .before .before .if1 .left), le-leb _ _ (c .before .before .if2 .left), le-leb _ _ (c .before .if3 .left), lt-leb _ _ (c .if4 .taken))
 
--- src/frame.rt:140:9
 returns-5 : tie.Need-returns-5
 unfolding askChunk
 returns-5 c =
     let d = c .before in
     rw (le-leb _ _ (d .before .before .before .if1 .left), le-leb _ _ (d .before .before .if2 .left), le-leb _ _ (d .before .if3 .left), le-leb _ _ (d .if4 .left), lt-leb _ _ (c .if5 .taken))
 
--- src/frame.rt:142:9
 all-seven-bit-requires : tie.Need-all-seven-bit-requires
 all-seven-bit-requires c κs = search needs
 
--- src/frame.rt:143:9
 returns-6 : tie.Need-returns-6
 unfolding askChunk
 returns-6 c =
@@ -77,7 +68,6 @@ returns-6 c =
       bad,
     )
 
--- src/frame.rt:147:13
 returns-7 : tie.Need-returns-7
 unfolding askChunk
 returns-7 c =
@@ -93,15 +83,12 @@ returns-7 c =
       ne-eqb _ _ (c .if8 .taken),
     )
 
--- src/frame.rt:150:20
 add-t9 : tie.Need-add-t9
 add-t9 c = search needs
 
--- src/frame.rt:150:20
 add-t20 : tie.Need-add-t20
 add-t20 c = search needs
 
--- src/frame.rt:118:1
 returns-8 : tie.Need-returns-8
 returns-8 c =
     let d = c .before .before .before in

@@ -6,35 +6,27 @@ use Rattle.pe_frame.proofs.frame.u14_at.Statement.{statement}
 use Rattle.pe_frame.proofs.frame.u14_at.Tie as tie
 use Rattle.pe_frame.proofs.FieldLaws.{number-two}
 
--- src/frame.rt:42:5
 shared-slice-read-result : tie.Need-shared-slice-read-result
 shared-slice-read-result c = search needs
 
--- src/frame.rt:42:5
 cast-result : tie.Need-cast-result
 cast-result c = omega (arith, c .shared-slice-known .given (c .before .args .at))
 
--- src/frame.rt:42:28
 add-result : tie.Need-add-result
 add-result c = search needs
 
--- src/frame.rt:42:23
 shared-slice-read-result-2 : tie.Need-shared-slice-read-result-2
 shared-slice-read-result-2 c = search needs
 
--- src/frame.rt:42:23
 cast-result-2 : tie.Need-cast-result-2
 cast-result-2 c = omega (arith, c .shared-slice-known2 .given (c .before .before .args .at + 1))
 
--- src/frame.rt:42:23
 mul-result : tie.Need-mul-result
 mul-result c = omega (arith, c .shared-slice-known2 .given (c .before .before .args .at + 1))
 
--- src/frame.rt:42:5
 add-result-2 : tie.Need-add-result-2
 add-result-2 c = omega (arith, c .before .shared-slice-known .given (c .before .before .args .at), c .shared-slice-known2 .given (c .before .before .args .at + 1))
 
--- src/frame.rt:38:1
 returns : tie.Need-returns
 returns c = sym (number-two _ _ (c .before .before .pre))
 

@@ -59,11 +59,9 @@ held c =
     let h = headerFor (a .args .sub-id2) (a .args .source .0) (a .args .dest .0) in
     c .fill .ensures ∙ put-on (now (a .args .out)) _ (headerBytes h) (chunkBytes (chunk a)) 0 13 (c .before .before .before .before .put-header .ensures) (omega (arith, header-length h))
 
--- src/message.rt:62:9
 muids-fit-requires : tie.Need-muids-fit-requires
 muids-fit-requires c κs = search needs
 
--- src/message.rt:63:9
 returns : tie.Need-returns
 unfolding writeWhole
 returns c =
@@ -71,11 +69,9 @@ returns c =
     let e : within28 (headerFor (a .sub-id2) (a .source .0) (a .dest .0)) ≡ false = sym (c .before .muids-fit .ensures) ∙ not-true _ (c .if1 .taken) in
     rw e
 
--- src/message.rt:65:9
 is-pe-chunked-sub-id-requires : tie.Need-is-pe-chunked-sub-id-requires
 is-pe-chunked-sub-id-requires c κs = search needs
 
--- src/message.rt:66:9
 returns-2 : tie.Need-returns-2
 unfolding writeWhole
 returns-2 c =
@@ -84,19 +80,15 @@ returns-2 c =
     let k : carriesChunk (a .sub-id2) ≡ false = sym (c .before .is-pe-chunked-sub-id .ensures) ∙ not-true _ (c .if2 .taken) in
     rw (w, k)
 
--- src/message.rt:68:9
 questions-requires : tie.Need-questions-requires
 questions-requires c κs = search needs
 
--- src/message.rt:69:24
 enum-known-answer : tie.Need-enum-known-answer
 enum-known-answer c = search needs
 
--- src/message.rt:70:9
 enum-told : tie.Need-enum-told
 enum-told c = search needs
 
--- src/message.rt:70:9
 returns-3 : tie.Need-returns-3
 returns-3 c =
     let d = c .before .before .before in
@@ -105,35 +97,29 @@ returns-3 c =
     let e = sym (c .before .before .questions .ensures) ∙ ap encodedTold g in
     rw (whole-refused _ _ _ (chunk a) _ (consoles d) (kind d) _ _ _ e) (ap (λ (r : Encoded). outcome (encodedTold r) (now (a .args .out))) g)
 
--- src/message.rt:72:16
 add-need : tie.Need-add-need
 add-need c =
     let n = c .before in
     omega (arith, len n, told n .0 .header-len, told n .0 .property-len)
 
--- src/message.rt:74:9
 returns-4 : tie.Need-returns-4
 returns-4 c =
     let n = c .before .before in
     let a = up n in
     rw (whole-short _ _ _ (chunk a) (length (now (a .args .out))) (consoles (n .before .before .before)) (kind (n .before .before .before)) (told n .0) (omega (arith, len n, c .if3 .taken)))
 
--- src/message.rt:76:5
 put-header-requires : tie.Need-put-header-requires
 put-header-requires c κs = (consoles (c .before .before .before .before .before .before), omega (arith, c .before .if3 .left))
 
--- src/message.rt:77:5
 fill-requires : tie.Need-fill-requires
 fill-requires c κs =
     let n = c .before .before .before .before .before .before .before in
     let r = told n .0 in
     (r .header-len, r .property-len, r .count, r .number, omega (arith, len n, c .before .before .before .before .before .if3 .left, headed (c .before .before .before)))
 
--- src/message.rt:49:1
 same-length : tie.Need-same-length
 same-length c = ap length (held (c .before .before)) ∙ length-put (now (up (c .before .before .before .before .before .before .before .before .before .before) .args .out)) _ _
 
--- src/message.rt:49:1
 returns-5 : tie.Need-returns-5
 returns-5 c =
     let n = c .before .before .before .before .before .before .before .before .before .before in

@@ -14,15 +14,12 @@ use Rattle.midici_core.specs.Header.{headerBytes, writeHeader}
 use Rattle.midici_core.proofs.HeaderLaws.{header-length}
 use Rattle.pe_frame.specs.Write.{headerFor}
 
--- src/message.rt:45:5
 encode-requires : tie.Need-encode-requires
 encode-requires c κs = search needs
 
--- src/message.rt:34:1
 same-length : tie.Need-same-length
 same-length c = search needs
 
--- src/message.rt:34:1
 returns : tie.Need-returns
 unfolding writeHeader
 returns c =

@@ -27,50 +27,39 @@ answer c =
     let l = c .before .before .before .before .loop in
     l .inv .1 ∙ check-next _ (l .i) (c .before .before .group-end .result) _ (omega arith) (omega arith) (c .check-group .ensures)
 
--- src/groups.rt:92:5
 loop-holds : tie.Need-loop-holds Inv-loop μ-loop
 loop-holds c = (search needs, refl)
 
--- src/groups.rt:93:13
 group-end-requires : tie.Need-group-end-requires Inv-loop μ-loop
 group-end-requires c κs = search needs
 
--- src/groups.rt:94:35
 sub-check-group : tie.Need-sub-check-group Inv-loop μ-loop
 sub-check-group c = search needs
 
--- src/groups.rt:94:35
 part-check-group-start : tie.Need-part-check-group-start Inv-loop μ-loop
 part-check-group-start c = search needs
 
--- src/groups.rt:94:35
 part-check-group-end : tie.Need-part-check-group-end Inv-loop μ-loop
 part-check-group-end c = search needs
 
--- src/groups.rt:94:13
 check-group-requires : tie.Need-check-group-requires Inv-loop μ-loop
 check-group-requires c κs = search needs
 
 enum-told : tie.Need-enum-told Inv-loop μ-loop
 enum-told c = search needs
 
--- src/groups.rt:96:13
 enum-told-2 : tie.Need-enum-told-2 Inv-loop μ-loop
 enum-told-2 c = search needs
 
--- src/groups.rt:96:13
 returns : tie.Need-returns Inv-loop μ-loop
 returns c = sym (answer (c .before .before) ∙ told-refused _ _ _ (c .enum-told2 .given .1))
 
--- src/groups.rt:92:5
 loop-less : tie.Need-loop-less Inv-loop μ-loop
 loop-less c = search needs
 
--- src/groups.rt:92:5
 loop-again : tie.Need-loop-again Inv-loop μ-loop
 loop-again c = (search needs, answer (c .before .before) ∙ told-wrote _ _ _ (c .enum-told .given .1))
 
--- src/groups.rt:88:1
 returns-2 : tie.Need-returns-2 Inv-loop μ-loop
 returns-2 c = sym (c .before .loop .inv .1 ∙ check-end _ (drop-of-length-le (now (c .before .before .before .args .input)) (c .loop-test .left)))
 

@@ -13,31 +13,24 @@ use borrow.Author.Tests.{not-true, not-false}
 low-is : (c : tie.Else2) → isSevenBit (now (c .before .before .before .before .args .group)) ≡ true
 low-is c = sym (c .before .all-seven-bit .ensures) ∙ not-false _ (c .if2 .left)
 
--- src/groups.rt:76:9
 returns : tie.Need-returns
 returns c = sym (group-short _ _ (omega arith))
 
--- src/groups.rt:78:9
 all-seven-bit-requires : tie.Need-all-seven-bit-requires
 all-seven-bit-requires c κs = search needs
 
--- src/groups.rt:79:9
 returns-2 : tie.Need-returns-2
 returns-2 c = sym (group-high _ _ (omega arith) (sym (c .before .all-seven-bit .ensures) ∙ not-true _ (c .if2 .taken)))
 
--- src/groups.rt:81:19
 shared-slice-read-spare-bits : tie.Need-shared-slice-read-spare-bits
 shared-slice-read-spare-bits c = search needs
 
--- src/groups.rt:81:8
 spare-bits-requires : tie.Need-spare-bits-requires
 spare-bits-requires c κs = search needs
 
--- src/groups.rt:82:9
 returns-3 : tie.Need-returns-3
 returns-3 c = sym (group-spare _ _ (omega arith) (low-is (c .before .before .before)) (omega arith))
 
--- src/groups.rt:71:1
 returns-4 : tie.Need-returns-4
 returns-4 c = sym (group-good _ _ (omega arith) (low-is (c .before .before .before)) (omega arith))
 

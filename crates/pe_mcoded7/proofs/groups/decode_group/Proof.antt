@@ -24,11 +24,9 @@ Inv-loop group out₀ at f₀ to₀ i₀ out f to i =
 abbrev μ-loop : tie.MeasureT-loop
 μ-loop group out₀ at f₀ to₀ i₀ out f to i = length group - i
 
--- src/groups.rt:108:21
 shared-slice-read-flags : tie.Need-shared-slice-read-flags Inv-loop μ-loop
 shared-slice-read-flags c = search needs
 
--- src/groups.rt:111:5
 loop-holds : tie.Need-loop-holds Inv-loop μ-loop
 loop-holds c =
     let a = c .before .args in
@@ -41,41 +39,32 @@ loop-holds c =
       refl,
     )
 
--- src/groups.rt:112:19
 shared-slice-read-out : tie.Need-shared-slice-read-out Inv-loop μ-loop
 shared-slice-read-out c = search needs
 
--- src/groups.rt:112:30
 mul-out : tie.Need-mul-out Inv-loop μ-loop
 mul-out c = search needs
 
--- src/groups.rt:112:19
 add-out : tie.Need-add-out Inv-loop μ-loop
 add-out c =
     let s = c .before .before .before .before in
     omega (arith, seven-bit-at (now (s .args .group)) (s .pre .2) (c .before .before .loop .i))
 
--- src/groups.rt:112:9
 slice-write-out : tie.Need-slice-write-out Inv-loop μ-loop
 slice-write-out c = search needs
 
--- src/groups.rt:113:17
 mul-flags : tie.Need-mul-flags Inv-loop μ-loop
 mul-flags c = search needs
 
--- src/groups.rt:114:9
 add-to : tie.Need-add-to Inv-loop μ-loop
 add-to c = search needs
 
--- src/groups.rt:115:9
 add-i : tie.Need-add-i Inv-loop μ-loop
 add-i c = search needs
 
--- src/groups.rt:111:5
 loop-less : tie.Need-loop-less Inv-loop μ-loop
 loop-less c = search needs
 
--- src/groups.rt:111:5
 loop-again : tie.Need-loop-again Inv-loop μ-loop
 loop-again c =
     let a = c .before .before .before .before .args in
@@ -89,11 +78,9 @@ loop-again c =
       simp length-set (l .inv .5),
     )
 
--- src/groups.rt:104:1
 same-length : tie.Need-same-length Inv-loop μ-loop
 same-length c = search needs
 
--- src/groups.rt:104:1
 returns : tie.Need-returns Inv-loop μ-loop
 returns c =
     let a = c .before .before .before .args in

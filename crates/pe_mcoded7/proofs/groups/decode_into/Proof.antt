@@ -23,27 +23,21 @@ Inv-loop input out₀ i₀ at₀ out i at =
 abbrev μ-loop : tie.MeasureT-loop
 μ-loop input out₀ i₀ at₀ out i at = length input - i
 
--- src/groups.rt:126:5
 loop-holds : tie.Need-loop-holds Inv-loop μ-loop
 loop-holds c = (search needs, omega (arith, length-decoded (now (c .before .before .args .input))), refl, refl)
 
--- src/groups.rt:127:13
 group-end-requires : tie.Need-group-end-requires Inv-loop μ-loop
 group-end-requires c κs = search needs
 
--- src/groups.rt:128:22
 sub-decode-group : tie.Need-sub-decode-group Inv-loop μ-loop
 sub-decode-group c = search needs
 
--- src/groups.rt:128:22
 part-decode-group-start : tie.Need-part-decode-group-start Inv-loop μ-loop
 part-decode-group-start c = search needs
 
--- src/groups.rt:128:22
 part-decode-group-end : tie.Need-part-decode-group-end Inv-loop μ-loop
 part-decode-group-end c = search needs
 
--- src/groups.rt:128:9
 decode-group-requires : tie.Need-decode-group-requires Inv-loop μ-loop
 decode-group-requires c κs =
     let s = c .before .before .before .before .before .before .before in
@@ -54,23 +48,18 @@ decode-group-requires c κs =
       simp (length-take, length-drop) (omega arith),
     )
 
--- src/groups.rt:129:15
 sub-at : tie.Need-sub-at Inv-loop μ-loop
 sub-at c = search needs
 
--- src/groups.rt:129:15
 sub-at-2 : tie.Need-sub-at-2 Inv-loop μ-loop
 sub-at-2 c = search needs
 
--- src/groups.rt:129:9
 add-at : tie.Need-add-at Inv-loop μ-loop
 add-at c = search needs
 
--- src/groups.rt:126:5
 loop-less : tie.Need-loop-less Inv-loop μ-loop
 loop-less c = search needs
 
--- src/groups.rt:126:5
 loop-again : tie.Need-loop-again Inv-loop μ-loop
 loop-again c =
     let g = c .before .before in
@@ -82,11 +71,9 @@ loop-again c =
       ap length (g .decode-group .ensures) ∙ length-put _ _ _ ∙ l .inv .3,
     )
 
--- src/groups.rt:120:1
 same-length : tie.Need-same-length Inv-loop μ-loop
 same-length c = search needs
 
--- src/groups.rt:120:1
 returns : tie.Need-returns Inv-loop μ-loop
 returns c = sym (decode-end _ _ _ (drop-of-length-le (now (c .before .before .before .before .args .input)) (c .loop-test .left))) ∙ c .before .loop .inv .2
 

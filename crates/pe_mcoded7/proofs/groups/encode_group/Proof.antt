@@ -24,46 +24,36 @@ Inv-loop group out₀ at f₀ i₀ out f i =
 abbrev μ-loop : tie.MeasureT-loop
 μ-loop group out₀ at f₀ i₀ out f i = i
 
--- src/groups.rt:30:5
 loop-holds : tie.Need-loop-holds Inv-loop μ-loop
 unfolding flags
 loop-holds c =
     let e = drop-length (now (c .args .group)) in
     (search needs, rw e (sym (put-none _ _)), rw e, search needs, refl)
 
--- src/groups.rt:31:9
 sub-i : tie.Need-sub-i Inv-loop μ-loop
 sub-i c = search needs
 
--- src/groups.rt:32:20
 shared-slice-read-byte : tie.Need-shared-slice-read-byte Inv-loop μ-loop
 shared-slice-read-byte c = search needs
 
--- src/groups.rt:33:13
 add-out : tie.Need-add-out Inv-loop μ-loop
 add-out c = search needs
 
--- src/groups.rt:33:13
 add-out-2 : tie.Need-add-out-2 Inv-loop μ-loop
 add-out-2 c = search needs
 
--- src/groups.rt:33:9
 slice-write-out : tie.Need-slice-write-out Inv-loop μ-loop
 slice-write-out c = search needs
 
--- src/groups.rt:34:29
 mul-flags : tie.Need-mul-flags Inv-loop μ-loop
 mul-flags c = omega (arith, c .shared-slice-known .given (c .before .before .loop .i - 1))
 
--- src/groups.rt:34:17
 add-flags : tie.Need-add-flags Inv-loop μ-loop
 add-flags c = omega (arith, c .shared-slice-known .given (c .before .before .loop .i - 1))
 
--- src/groups.rt:30:5
 loop-less : tie.Need-loop-less Inv-loop μ-loop
 loop-less c = search needs
 
--- src/groups.rt:30:5
 loop-again : tie.Need-loop-again Inv-loop μ-loop
 loop-again c =
     let a = c .before .before .before .args in
@@ -78,15 +68,12 @@ loop-again c =
       simp length-set (l .inv .4),
     )
 
--- src/groups.rt:36:5
 slice-write-out-2 : tie.Need-slice-write-out-2 Inv-loop μ-loop
 slice-write-out-2 c = search needs
 
--- src/groups.rt:24:1
 same-length : tie.Need-same-length Inv-loop μ-loop
 same-length c = search needs
 
--- src/groups.rt:24:1
 returns : tie.Need-returns Inv-loop μ-loop
 returns c =
     let a = c .before .before .args in

@@ -22,47 +22,36 @@ Inv-loop input out₀ i₀ at₀ out i at =
 abbrev μ-loop : tie.MeasureT-loop
 μ-loop input out₀ i₀ at₀ out i at = length input - i
 
--- src/groups.rt:46:5
 loop-holds : tie.Need-loop-holds Inv-loop μ-loop
 loop-holds c = (search needs, omega (arith, length-encoded (now (c .before .before .args .input))), refl, refl)
 
--- src/groups.rt:47:13
 group-end-requires : tie.Need-group-end-requires Inv-loop μ-loop
 group-end-requires c κs = search needs
 
--- src/groups.rt:48:22
 sub-encode-group : tie.Need-sub-encode-group Inv-loop μ-loop
 sub-encode-group c = search needs
 
--- src/groups.rt:48:22
 part-encode-group-start : tie.Need-part-encode-group-start Inv-loop μ-loop
 part-encode-group-start c = search needs
 
--- src/groups.rt:48:22
 part-encode-group-end : tie.Need-part-encode-group-end Inv-loop μ-loop
 part-encode-group-end c = search needs
 
--- src/groups.rt:48:9
 encode-group-requires : tie.Need-encode-group-requires Inv-loop μ-loop
 encode-group-requires c κs = simp (length-take, length-drop) (omega arith)
 
--- src/groups.rt:49:20
 sub-at : tie.Need-sub-at Inv-loop μ-loop
 sub-at c = search needs
 
--- src/groups.rt:49:15
 add-at : tie.Need-add-at Inv-loop μ-loop
 add-at c = search needs
 
--- src/groups.rt:49:9
 add-at-2 : tie.Need-add-at-2 Inv-loop μ-loop
 add-at-2 c = search needs
 
--- src/groups.rt:46:5
 loop-less : tie.Need-loop-less Inv-loop μ-loop
 loop-less c = search needs
 
--- src/groups.rt:46:5
 loop-again : tie.Need-loop-again Inv-loop μ-loop
 loop-again c =
     let g = c .before .before in
@@ -74,11 +63,9 @@ loop-again c =
       ap length (g .encode-group .ensures) ∙ length-put _ _ _ ∙ l .inv .3,
     )
 
--- src/groups.rt:40:1
 same-length : tie.Need-same-length Inv-loop μ-loop
 same-length c = search needs
 
--- src/groups.rt:40:1
 returns : tie.Need-returns Inv-loop μ-loop
 returns c = sym (encode-end _ _ _ (drop-of-length-le (now (c .before .before .before .before .args .input)) (c .loop-test .left))) ∙ c .before .loop .inv .2
 

@@ -14,27 +14,21 @@ Inv-loop shape numbers total₀ p₀ total p = (p ≤ shape .«max_peers») × (
 abbrev μ-loop : tie.MeasureT-loop
 μ-loop shape numbers total₀ p₀ total p = shape .«max_peers» - p
 
--- src/calls.rt:223:5
 loop-holds : tie.Need-loop-holds Inv-loop μ-loop
 loop-holds c = (omega arith, rw (over-none _ 0))
 
--- src/calls.rt:224:9
 add-peer-bytes-requires : tie.Need-add-peer-bytes-requires Inv-loop μ-loop
 add-peer-bytes-requires c κs = let l = numbers-long _ _ (c .before .before .before .before .pre) in omega arith
 
--- src/calls.rt:225:9
 add-p : tie.Need-add-p Inv-loop μ-loop
 add-p c = let l = numbers-long _ _ (c .before .before .before .before .before .pre) in omega arith
 
--- src/calls.rt:223:5
 loop-less : tie.Need-loop-less Inv-loop μ-loop
 loop-less c = omega arith
 
--- src/calls.rt:223:5
 loop-again : tie.Need-loop-again Inv-loop μ-loop
 loop-again c = (omega arith, over-held _ _ (c .before .before .before .loop .inv .1) (c .add-peer-bytes .ensures))
 
--- src/calls.rt:217:1
 returns : tie.Need-returns Inv-loop μ-loop
 returns c =
     let numbers = now (c .before .before .before .before .args .numbers) in

@@ -15,31 +15,24 @@ Inv-loop shape numbers total₀ p₀ total p =
 abbrev μ-loop : tie.MeasureT-loop
 μ-loop shape numbers total₀ p₀ total p = shape .«max_peers» - p
 
--- src/calls.rt:236:5
 loop-holds : tie.Need-loop-holds Inv-loop μ-loop
 loop-holds c = (omega arith, sym (over-none _ 0), omega arith)
 
--- src/calls.rt:237:18
 open-slots-requires : tie.Need-open-slots-requires Inv-loop μ-loop
 open-slots-requires c κs = let l = numbers-long _ _ (c .before .before .before .before .pre) in omega arith
 
--- src/calls.rt:237:9
 add-total : tie.Need-add-total Inv-loop μ-loop
 add-total c = let l = numbers-long _ _ (c .before .before .before .before .before .pre) in omega arith
 
--- src/calls.rt:238:9
 add-p : tie.Need-add-p Inv-loop μ-loop
 add-p c = let l = numbers-long _ _ (c .before .before .before .before .before .pre) in omega arith
 
--- src/calls.rt:236:5
 loop-less : tie.Need-loop-less Inv-loop μ-loop
 loop-less c = omega arith
 
--- src/calls.rt:236:5
 loop-again : tie.Need-loop-again Inv-loop μ-loop
 loop-again c = (omega arith, rw (over-next _ _, ← (c .before .before .before .loop .inv .1), ← (c .open-slots .ensures .0)), omega arith)
 
--- src/calls.rt:230:1
 returns : tie.Need-returns Inv-loop μ-loop
 returns c =
     let numbers = now (c .before .before .before .before .args .numbers) in

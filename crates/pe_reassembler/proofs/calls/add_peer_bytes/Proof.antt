@@ -3,39 +3,30 @@ use Rattle.pe_reassembler.proofs.calls.add_peer_bytes.Statement.{statem
 use Rattle.pe_reassembler.proofs.calls.add_peer_bytes.Tie as tie
 use Rattle.pe_reassembler.proofs.CallsSums.{four-held}
 
--- src/calls.rt:211:31
 slot-bytes-requires : tie.Need-slot-bytes-requires
 slot-bytes-requires c κs = search needs
 
--- src/calls.rt:211:9
 held-sum-requires : tie.Need-held-sum-requires
 held-sum-requires c κs = search needs
 
--- src/calls.rt:212:29
 slot-bytes-requires-2 : tie.Need-slot-bytes-requires-2
 slot-bytes-requires-2 c κs = search needs
 
--- src/calls.rt:212:9
 held-sum-requires-2 : tie.Need-held-sum-requires-2
 held-sum-requires-2 c κs = search needs
 
--- src/calls.rt:213:31
 slot-bytes-requires-3 : tie.Need-slot-bytes-requires-3
 slot-bytes-requires-3 c κs = search needs
 
--- src/calls.rt:213:9
 held-sum-requires-3 : tie.Need-held-sum-requires-3
 held-sum-requires-3 c κs = search needs
 
--- src/calls.rt:214:21
 slot-bytes-requires-4 : tie.Need-slot-bytes-requires-4
 slot-bytes-requires-4 c κs = search needs
 
--- src/calls.rt:214:5
 held-sum-requires-4 : tie.Need-held-sum-requires-4
 held-sum-requires-4 c κs = search needs
 
--- src/calls.rt:207:1
 returns : tie.Need-returns
 returns c =
     let k = c .before .before .before .before in

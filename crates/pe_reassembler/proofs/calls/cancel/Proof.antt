@@ -28,84 +28,66 @@ found : (c : tie.After-p)
     → recordOf (given-args (asked c) .args .shape) (now (given-args (asked c) .args .numbers)) (given-args (asked c) .args .peer) ≡ some (c .p .given .0 .0)
 found c = answer (c .before .before .record-of .ensures) (c .p .given .1)
 
--- src/calls.rt:104:9
 has-numbers-requires : tie.Need-has-numbers-requires
 has-numbers-requires c κs = search needs
 
--- src/calls.rt:105:9
 same-length : tie.Need-same-length
 same-length c = search needs
 
--- src/calls.rt:105:9
 returns : tie.Need-returns
 unfolding cancelCall
 returns c = rw (no (c .before .has-numbers .ensures) (c .if1 .taken))
 
--- src/calls.rt:108:9
 same-length-2 : tie.Need-same-length-2
 same-length-2 c = search needs
 
--- src/calls.rt:108:9
 returns-2 : tie.Need-returns-2
 unfolding cancelCall
 returns-2 c = rw (yes (c .before .before .has-numbers .ensures) (c .before .if1 .left), lt-leb _ _ (c .if2 .taken))
 
--- src/calls.rt:110:24
 record-of-requires : tie.Need-record-of-requires
 record-of-requires c κs = shaped c
 
--- src/calls.rt:110:19
 enum-known-p : tie.Need-enum-known-p
 enum-known-p c = search needs
 
--- src/calls.rt:111:9
 enum-told : tie.Need-enum-told
 enum-told c = search needs
 
--- src/calls.rt:111:9
 same-length-3 : tie.Need-same-length-3
 same-length-3 c = search needs
 
--- src/calls.rt:111:9
 returns-3 : tie.Need-returns-3
 unfolding cancelCall
 returns-3 c = rw (shaped (c .before .before .before), within (c .before .before .before), answer (c .before .before .record-of .ensures) (c .enum-told .given .1))
 
--- src/calls.rt:113:24
 slot-open-requires : tie.Need-slot-open-requires
 slot-open-requires c κs = record-in _ _ _ _ (shaped (asked (c .before .before))) (found (c .before .before))
 
--- src/calls.rt:113:19
 enum-known-s : tie.Need-enum-known-s
 enum-known-s c = search needs
 
--- src/calls.rt:114:9
 enum-told-2 : tie.Need-enum-told-2
 enum-told-2 c = search needs
 
--- src/calls.rt:114:9
 same-length-4 : tie.Need-same-length-4
 same-length-4 c = search needs
 
--- src/calls.rt:114:9
 returns-4 : tie.Need-returns-4
 unfolding cancelCall
 returns-4 c =
     let k = c .before .before .before .before .before in
     rw (shaped (asked k), within (asked k), found k, answer (c .before .before .slot-open .ensures) (c .enum-told2 .given .1))
 
--- src/calls.rt:116:5
 close-at-requires : tie.Need-close-at-requires
 close-at-requires c κs =
     let k = c .before .before .before .before .before .before .before in
     let l = record-in _ _ _ _ (shaped (asked k)) (found k) in
     (l .0, slot-open-below _ _ _ _ (answer (c .before .before .before .before .slot-open .ensures) (c .before .before .s .given .1)), l .1)
 
--- src/calls.rt:101:1
 same-length-5 : tie.Need-same-length-5
 same-length-5 c = search needs
 
--- src/calls.rt:101:1
 returns-5 : tie.Need-returns-5
 unfolding cancelCall
 returns-5 c =

@@ -3,27 +3,21 @@ use Rattle.pe_reassembler.proofs.calls.close_open.Statement.{statement}
 use Rattle.pe_reassembler.proofs.calls.close_open.Tie as tie
 use Rattle.pe_reassembler.proofs.TableLaws.{yes, no}
 
--- src/calls.rt:136:9
 is-active-requires : tie.Need-is-active-requires
 is-active-requires c κs = search needs
 
--- src/calls.rt:137:9
 same-length : tie.Need-same-length
 same-length c = search needs
 
--- src/calls.rt:137:9
 returns : tie.Need-returns
 returns c = rw (no (c .before .is-active .ensures) (c .if1 .taken))
 
--- src/calls.rt:139:5
 close-at-requires : tie.Need-close-at-requires
 close-at-requires c κs = search needs
 
--- src/calls.rt:132:1
 same-length-2 : tie.Need-same-length-2
 same-length-2 c = search needs
 
--- src/calls.rt:132:1
 returns-2 : tie.Need-returns-2
 returns-2 c = rw (yes (c .before .before .before .before .before .is-active .ensures) (c .before .before .before .before .if1 .left)) (c .before .before .close-at .ensures)
 

@@ -28,58 +28,45 @@ found : (c : tie.After-p)
     → recordOf (given-args (asked c) .args .shape) (now (given-args (asked c) .args .numbers)) (given-args (asked c) .args .peer) ≡ some (c .p .given .0 .0)
 found c = answer (c .before .before .record-of .ensures) (c .p .given .1)
 
--- src/calls.rt:161:9
 has-numbers-requires : tie.Need-has-numbers-requires
 has-numbers-requires c κs = search needs
 
--- src/calls.rt:162:9
 same-length : tie.Need-same-length
 same-length c = search needs
 
--- src/calls.rt:162:9
 returns : tie.Need-returns
 unfolding dropCall
 returns c = rw (no (c .before .has-numbers .ensures) (c .if1 .taken))
 
--- src/calls.rt:165:9
 same-length-2 : tie.Need-same-length-2
 same-length-2 c = search needs
 
--- src/calls.rt:165:9
 returns-2 : tie.Need-returns-2
 unfolding dropCall
 returns-2 c = rw (yes (c .before .before .has-numbers .ensures) (c .before .if1 .left), lt-leb _ _ (c .if2 .taken))
 
--- src/calls.rt:167:24
 record-of-requires : tie.Need-record-of-requires
 record-of-requires c κs = shaped c
 
--- src/calls.rt:167:19
 enum-known-p : tie.Need-enum-known-p
 enum-known-p c = search needs
 
--- src/calls.rt:168:9
 enum-told : tie.Need-enum-told
 enum-told c = search needs
 
--- src/calls.rt:168:9
 same-length-3 : tie.Need-same-length-3
 same-length-3 c = search needs
 
--- src/calls.rt:168:9
 returns-3 : tie.Need-returns-3
 unfolding dropCall
 returns-3 c = rw (shaped (c .before .before .before), within (c .before .before .before), answer (c .before .before .record-of .ensures) (c .enum-told .given .1))
 
--- src/calls.rt:170:19
 drop-record-requires : tie.Need-drop-record-requires
 drop-record-requires c κs = record-in _ _ _ _ (shaped (asked (c .before .before))) (found (c .before .before))
 
--- src/calls.rt:158:1
 same-length-4 : tie.Need-same-length-4
 same-length-4 c = search needs
 
--- src/calls.rt:158:1
 returns-4 : tie.Need-returns-4
 unfolding dropCall
 returns-4 c =

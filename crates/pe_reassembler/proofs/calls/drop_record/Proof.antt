@@ -4,43 +4,33 @@ use Rattle.pe_reassembler.proofs.calls.drop_record.Statement.{statement
 use Rattle.pe_reassembler.proofs.calls.drop_record.Tie as tie
 use Rattle.pe_reassembler.proofs.CallsLaws.{drop-all}
 
--- src/calls.rt:147:9
 open-slots-requires : tie.Need-open-slots-requires
 open-slots-requires c κs = search needs
 
--- src/calls.rt:148:5
 close-open-requires : tie.Need-close-open-requires
 close-open-requires c κs = search needs
 
--- src/calls.rt:149:5
 close-open-requires-2 : tie.Need-close-open-requires-2
 close-open-requires-2 c κs = search needs
 
--- src/calls.rt:150:5
 close-open-requires-3 : tie.Need-close-open-requires-3
 close-open-requires-3 c κs = search needs
 
--- src/calls.rt:151:5
 close-open-requires-4 : tie.Need-close-open-requires-4
 close-open-requires-4 c κs = search needs
 
--- src/calls.rt:152:9
 peer-at-requires : tie.Need-peer-at-requires
 peer-at-requires c κs = search needs
 
--- src/calls.rt:153:5
 mul-numbers : tie.Need-mul-numbers
 mul-numbers c = search needs
 
--- src/calls.rt:153:5
 slice-write-numbers : tie.Need-slice-write-numbers
 slice-write-numbers c = search needs
 
--- src/calls.rt:143:1
 same-length : tie.Need-same-length
 same-length c = simp length-set (search needs)
 
--- src/calls.rt:143:1
 returns : tie.Need-returns
 returns c =
     let k4 = c .before .before .before in

@@ -9,19 +9,15 @@ use Rattle.pe_reassembler.proofs.CallsFresh.{fresh-clock}
 use mathlib.Core.List.{List}
 use Rattle.seven_bit.proofs.PartLaws.{length-put}
 
--- src/calls.rt:92:5
 slice-write-numbers : tie.Need-slice-write-numbers
 slice-write-numbers c = search needs
 
--- src/calls.rt:93:5
 fresh-peers-requires : tie.Need-fresh-peers-requires
 fresh-peers-requires c κs = search needs
 
--- src/calls.rt:88:1
 same-length : tie.Need-same-length
 same-length c = ap (λ (l : List ℕ). length l) (c .before .before .fresh-peers .ensures) ∙ simp (length-put, length-set)
 
--- src/calls.rt:88:1
 returns : tie.Need-returns
 returns c =
     let k = c .before .before .before .before .before in

@@ -17,59 +17,46 @@ Inv-loop numbers₀ max-peers p₀ numbers p = (p ≤ max-peers) × (numbers ≡
 abbrev μ-loop : tie.MeasureT-loop
 μ-loop numbers₀ max-peers p₀ numbers p = max-peers - p
 
--- src/calls.rt:80:5
 loop-holds : tie.Need-loop-holds Inv-loop μ-loop
 unfolding freshPeers
 loop-holds c = (omega arith, sym (put-none _ _), refl)
 
--- src/calls.rt:81:13
 peer-at-requires : tie.Need-peer-at-requires Inv-loop μ-loop
 peer-at-requires c κs = search needs
 
--- src/calls.rt:82:37
 add-fresh-peer : tie.Need-add-fresh-peer Inv-loop μ-loop
 add-fresh-peer c = search needs
 
--- src/calls.rt:82:20
 mul-fresh-peer : tie.Need-mul-fresh-peer Inv-loop μ-loop
 mul-fresh-peer c = search needs
 
--- src/calls.rt:82:20
 sub-fresh-peer : tie.Need-sub-fresh-peer Inv-loop μ-loop
 sub-fresh-peer c = search needs
 
--- src/calls.rt:82:20
 part-fresh-peer-start : tie.Need-part-fresh-peer-start Inv-loop μ-loop
 part-fresh-peer-start c = search needs
 
--- src/calls.rt:82:20
 part-fresh-peer-end : tie.Need-part-fresh-peer-end Inv-loop μ-loop
 part-fresh-peer-end c = omega arith
 
--- src/calls.rt:82:9
 fresh-peer-requires : tie.Need-fresh-peer-requires Inv-loop μ-loop
 fresh-peer-requires c κs = search needs
 
--- src/calls.rt:83:9
 add-p : tie.Need-add-p Inv-loop μ-loop
 add-p c = search needs
 
--- src/calls.rt:80:5
 loop-less : tie.Need-loop-less Inv-loop μ-loop
 loop-less c = omega arith
 
--- src/calls.rt:80:5
 loop-again : tie.Need-loop-again Inv-loop μ-loop
 loop-again c =
     let k = c .before .before .before .before .before .before in
     let l = k .loop in
     (omega arith, fresh-step (now (k .before .before .args .numbers)) (l .p) (c .before .before .before .before .peer-at .ensures) (omega arith) (l .inv .1) (c .before .before .fresh-peer .ensures), search needs)
 
--- src/calls.rt:74:1
 same-length : tie.Need-same-length Inv-loop μ-loop
 same-length c = search needs
 
--- src/calls.rt:74:1
 returns : tie.Need-returns Inv-loop μ-loop
 returns c =
     let l = c .before .loop in

@@ -5,28 +5,22 @@ use Rattle.pe_reassembler.proofs.TableLaws.{yes, no, asked-range}
 use Rattle.pe_reassembler.proofs.CallsSums.{stats-are}
 use Rattle.pe_reassembler.specs.Calls.{statsCall}
 
--- src/calls.rt:255:9
 has-numbers-requires : tie.Need-has-numbers-requires
 has-numbers-requires c κs = search needs
 
--- src/calls.rt:256:9
 returns : tie.Need-returns
 unfolding statsCall
 returns c = rw (no (c .before .has-numbers .ensures) (c .if1 .taken))
 
--- src/calls.rt:259:25
 reserved-requires : tie.Need-reserved-requires
 reserved-requires c κs = asked-range _ _ (yes (c .before .has-numbers .ensures) (c .if1 .left))
 
--- src/calls.rt:260:23
 active-bytes-requires : tie.Need-active-bytes-requires
 active-bytes-requires c κs = yes (c .before .before .has-numbers .ensures) (c .before .if1 .left)
 
--- src/calls.rt:261:23
 active-slots-requires : tie.Need-active-slots-requires
 active-slots-requires c κs = yes (c .before .before .before .has-numbers .ensures) (c .before .before .if1 .left)
 
--- src/calls.rt:252:1
 returns-2 : tie.Need-returns-2
 returns-2 c =
     let k = c .before .before .before in

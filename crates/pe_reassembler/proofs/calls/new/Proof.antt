@@ -17,28 +17,22 @@ given-args c = c .before .before .before .before .before .before .before .before
 shaped : (c : tie.After-struct-known) → hasRooms (given-args c .args .shape) (now (given-args c .args .numbers)) (now (given-args c .args .index)) (now (given-args c .args .headers)) (now (given-args c .args .arenas)) ≡ true
 shaped c = yes (c .before .before .has-rooms .ensures) (c .before .if1 .left)
 
--- src/calls.rt:91:9
 has-rooms-requires : tie.Need-has-rooms-requires
 has-rooms-requires c κs = search needs
 
--- src/calls.rt:92:9
 same-length : tie.Need-same-length
 same-length c = search needs
 
--- src/calls.rt:92:9
 same-length-2 : tie.Need-same-length-2
 same-length-2 c = search needs
 
--- src/calls.rt:92:9
 returns : tie.Need-returns
 unfolding newCall
 returns c = rw (no (c .before .has-rooms .ensures) (c .if1 .taken))
 
--- src/calls.rt:94:19
 mul-records : tie.Need-mul-records
 mul-records c = let r = in-range _ _ (index-long _ _ _ _ _ (shaped c) .0) in omega arith
 
--- src/calls.rt:94:19
 mul-records-2 : tie.Need-mul-records-2
 mul-records-2 c =
     let r = in-range _ _ (index-long _ _ _ _ _ (shaped (c .before)) .0) in
@@ -46,35 +40,27 @@ mul-records-2 c =
     let l = rooms-below (s .«max_peers») (s .«fragment_records») (r .peers) (omega arith) in
     omega arith
 
--- src/calls.rt:95:5
 fresh-numbers-requires : tie.Need-fresh-numbers-requires
 fresh-numbers-requires c κs = numbers-long _ _ (index-long _ _ _ _ _ (shaped (c .before .before)) .0)
 
--- src/calls.rt:96:10
 sub-zero : tie.Need-sub-zero
 sub-zero c = search needs
 
--- src/calls.rt:96:10
 part-zero-start : tie.Need-part-zero-start
 part-zero-start c = search needs
 
--- src/calls.rt:96:10
 part-zero-end : tie.Need-part-zero-end
 part-zero-end c = index-long _ _ _ _ _ (shaped (c .before .before .before .before .before)) .1
 
--- src/calls.rt:96:5
 zero-requires : tie.Need-zero-requires
 zero-requires c κs = search needs
 
--- src/calls.rt:88:1
 same-length-3 : tie.Need-same-length-3
 same-length-3 c = search needs
 
--- src/calls.rt:88:1
 same-length-4 : tie.Need-same-length-4
 same-length-4 c = search needs
 
--- src/calls.rt:88:1
 returns-2 : tie.Need-returns-2
 returns-2 c = made _ _ _ _ _ (shaped (c .before .before .before .before .before .before .before .before .before)) (c .before .before .before .before .before .before .fresh-numbers .ensures) (c .before .before .zero .ensures)
 

@@ -4,52 +4,40 @@ use Rattle.pe_reassembler.proofs.calls.open_slots.Statement.{statement}
 use Rattle.pe_reassembler.proofs.calls.open_slots.Tie as tie
 use Rattle.pe_reassembler.proofs.CallsSums.{four-flags, flag-below}
 
--- src/calls.rt:125:5
 is-active-requires : tie.Need-is-active-requires
 is-active-requires c κs = search needs
 
--- src/calls.rt:125:5
 cast-result : tie.Need-cast-result
 cast-result c = search needs
 
--- src/calls.rt:126:11
 is-active-requires-2 : tie.Need-is-active-requires-2
 is-active-requires-2 c κs = search needs
 
--- src/calls.rt:126:11
 cast-result-2 : tie.Need-cast-result-2
 cast-result-2 c = search needs
 
--- src/calls.rt:125:5
 add-result : tie.Need-add-result
 add-result c = omega (arith, flag-below (c .before .is-active .result), flag-below (c .is-active2 .result))
 
--- src/calls.rt:127:11
 is-active-requires-3 : tie.Need-is-active-requires-3
 is-active-requires-3 c κs = search needs
 
--- src/calls.rt:127:11
 cast-result-3 : tie.Need-cast-result-3
 cast-result-3 c = search needs
 
--- src/calls.rt:125:5
 add-result-2 : tie.Need-add-result-2
 add-result-2 c = omega (arith, flag-below (c .before .before .is-active .result), flag-below (c .before .is-active2 .result), flag-below (c .is-active3 .result))
 
--- src/calls.rt:128:11
 is-active-requires-4 : tie.Need-is-active-requires-4
 is-active-requires-4 c κs = search needs
 
--- src/calls.rt:128:11
 cast-result-4 : tie.Need-cast-result-4
 cast-result-4 c = search needs
 
--- src/calls.rt:125:5
 add-result-3 : tie.Need-add-result-3
 add-result-3 c =
     omega (arith, flag-below (c .before .before .before .is-active .result), flag-below (c .before .before .is-active2 .result), flag-below (c .before .is-active3 .result), flag-below (c .is-active4 .result))
 
--- src/calls.rt:121:1
 returns : tie.Need-returns
 returns c = (
   four-flags (c .before .before .before .is-active .ensures) (c .before .before .is-active2 .ensures) (c .before .is-active3 .ensures) (c .is-active4 .ensures),

@@ -7,30 +7,24 @@ use Rattle.pe_reassembler.proofs.TableLaws.{ranges}
 use Rattle.pe_reassembler.proofs.CallsSums.{reserved-below}
 use Rattle.pe_reassembler.specs.Calls.{reservedOf}
 
--- src/calls.rt:248:16
 add-each : tie.Need-add-each
 add-each c = let r = ranges _ (c .before .pre) in omega arith
 
--- src/calls.rt:248:54
 mul-each : tie.Need-mul-each
 mul-each c = let r = ranges _ (c .before .before .pre) in omega arith
 
--- src/calls.rt:248:16
 add-each-2 : tie.Need-add-each-2
 add-each-2 c = let r = ranges _ (c .before .before .pre) in omega arith
 
--- src/calls.rt:249:6
 mul-result : tie.Need-mul-result
 mul-result c = let r = ranges _ (c .before .before .before .pre) in omega arith
 
--- src/calls.rt:249:6
 mul-result-2 : tie.Need-mul-result-2
 mul-result-2 c =
     let r = ranges _ (c .before .before .before .pre) in let s = c .before .before .before .args .shape in
     let l = reserved-below (s .«max_peers») (s .«header_bytes» + s .«tx_bytes» + 8 * s .«fragment_records») (r .peers) (omega arith) in
     omega arith
 
--- src/calls.rt:244:1
 returns : tie.Need-returns
 unfolding reservedOf
 returns c = refl

@@ -4,20 +4,16 @@ use Rattle.pe_reassembler.proofs.calls.reserved_bytes.Tie as tie
 use Rattle.pe_reassembler.proofs.TableLaws.{yes, no}
 use Rattle.pe_reassembler.specs.Calls.{reservedCall}
 
--- src/calls.rt:268:9
 in-range-requires : tie.Need-in-range-requires
 in-range-requires c κs = search needs
 
--- src/calls.rt:269:9
 returns : tie.Need-returns
 unfolding reservedCall
 returns c = rw (no (c .before .in-range .ensures) (c .if1 .taken))
 
--- src/calls.rt:271:19
 reserved-requires : tie.Need-reserved-requires
 reserved-requires c κs = yes (c .before .in-range .ensures) (c .if1 .left)
 
--- src/calls.rt:265:1
 returns-2 : tie.Need-returns-2
 unfolding reservedCall
 returns-2 c = rw (yes (c .before .before .in-range .ensures) (c .before .if1 .left), c .reserved .ensures)

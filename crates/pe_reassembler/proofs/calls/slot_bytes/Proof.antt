@@ -5,68 +5,52 @@ use Rattle.pe_reassembler.proofs.TableLaws.{yes, no}
 use Rattle.pe_reassembler.proofs.CallsSums.{slot-held}
 use Rattle.pe_reassembler.specs.Calls.{slotBytes}
 
--- src/calls.rt:198:9
 is-active-requires : tie.Need-is-active-requires
 is-active-requires c κs = search needs
 
--- src/calls.rt:199:9
 returns : tie.Need-returns
 unfolding slotBytes
 returns c = rw (no (c .before .is-active .ensures) (c .if1 .taken))
 
--- src/calls.rt:201:9
 slot-at-requires : tie.Need-slot-at-requires
 slot-at-requires c κs = search needs
 
--- src/calls.rt:202:39
 add-held-sum : tie.Need-add-held-sum
 add-held-sum c = search needs
 
--- src/calls.rt:202:31
 mul-held-sum : tie.Need-mul-held-sum
 mul-held-sum c = search needs
 
--- src/calls.rt:202:31
 shared-slice-read-held-sum : tie.Need-shared-slice-read-held-sum
 shared-slice-read-held-sum c = search needs
 
--- src/calls.rt:202:56
 add-held-sum-2 : tie.Need-add-held-sum-2
 add-held-sum-2 c = search needs
 
--- src/calls.rt:202:48
 mul-held-sum-2 : tie.Need-mul-held-sum-2
 mul-held-sum-2 c = search needs
 
--- src/calls.rt:202:48
 shared-slice-read-held-sum-2 : tie.Need-shared-slice-read-held-sum-2
 shared-slice-read-held-sum-2 c = search needs
 
--- src/calls.rt:202:9
 held-sum-requires : tie.Need-held-sum-requires
 held-sum-requires c κs = search needs
 
--- src/calls.rt:203:47
 add-record-bytes : tie.Need-add-record-bytes
 add-record-bytes c = search needs
 
--- src/calls.rt:203:39
 mul-record-bytes : tie.Need-mul-record-bytes
 mul-record-bytes c = search needs
 
--- src/calls.rt:203:39
 shared-slice-read-record-bytes : tie.Need-shared-slice-read-record-bytes
 shared-slice-read-record-bytes c = search needs
 
--- src/calls.rt:203:26
 record-bytes-requires : tie.Need-record-bytes-requires
 record-bytes-requires c κs = search needs
 
--- src/calls.rt:203:5
 held-sum-requires-2 : tie.Need-held-sum-requires-2
 held-sum-requires-2 c κs = search needs
 
--- src/calls.rt:194:1
 returns-2 : tie.Need-returns-2
 returns-2 c =
     let k = c .before .before .before .before .before .before in

@@ -6,48 +6,37 @@ use Rattle.pe_reassembler.proofs.feed.bind_to.Statement.{statement}
 use Rattle.pe_reassembler.proofs.feed.bind_to.Tie as tie
 use Rattle.pe_reassembler.specs.Feed.{bind}
 
--- src/feed.rt:80:8
 bound-to-requires : tie.Need-bound-to-requires
 bound-to-requires c κs = search needs
 
--- src/feed.rt:81:9
 same-length : tie.Need-same-length
 same-length c = search needs
 
--- src/feed.rt:81:9
 returns : tie.Need-returns
 unfolding bind
 returns c = rw (sym (c .before .bound-to .ensures) ∙ c .if1 .taken)
 
--- src/feed.rt:83:9
 peer-at-requires : tie.Need-peer-at-requires
 peer-at-requires c κs = search needs
 
--- src/feed.rt:84:5
 mul-numbers : tie.Need-mul-numbers
 mul-numbers c = search needs
 
--- src/feed.rt:84:5
 slice-write-numbers : tie.Need-slice-write-numbers
 slice-write-numbers c = search needs
 
--- src/feed.rt:85:13
 add-numbers : tie.Need-add-numbers
 add-numbers c = search needs
 
--- src/feed.rt:85:5
 mul-numbers-2 : tie.Need-mul-numbers-2
 mul-numbers-2 c = search needs
 
--- src/feed.rt:85:5
 slice-write-numbers-2 : tie.Need-slice-write-numbers-2
 slice-write-numbers-2 c = let h = c .before .before .before .before .before .pre in let e = c .peer-at .ensures in simp length-set (omega (arith, h, e))
 
--- src/feed.rt:76:1
 same-length-2 : tie.Need-same-length-2
 same-length-2 c = search needs
 
--- src/feed.rt:76:1
 returns-2 : tie.Need-returns-2
 unfolding bind
 returns-2 c = rw (sym (c .before .before .bound-to .ensures) ∙ c .before .if1 .left, c .peer-at .ensures)

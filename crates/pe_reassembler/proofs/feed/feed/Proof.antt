@@ -5,97 +5,74 @@ use borrow.Author.Tests.{lt-leb, le-leb}
 use Rattle.pe_reassembler.specs.Feed.{feedCall}
 use Rattle.pe_reassembler.proofs.TableLaws.{yes, no}
 
--- src/feed.rt:267:9
 has-all-requires : tie.Need-has-all-requires
 has-all-requires c κs = search needs
 
--- src/feed.rt:268:9
 same-length : tie.Need-same-length
 same-length c = search needs
 
--- src/feed.rt:268:9
 same-length-2 : tie.Need-same-length-2
 same-length-2 c = search needs
 
--- src/feed.rt:268:9
 same-length-3 : tie.Need-same-length-3
 same-length-3 c = search needs
 
--- src/feed.rt:268:9
 same-length-4 : tie.Need-same-length-4
 same-length-4 c = search needs
 
--- src/feed.rt:268:9
 same-length-5 : tie.Need-same-length-5
 same-length-5 c = search needs
 
--- src/feed.rt:268:9
 same-length-6 : tie.Need-same-length-6
 same-length-6 c = search needs
 
--- src/feed.rt:268:9
 returns : tie.Need-returns
 unfolding feedCall
 returns c = rw (no (c .before .has-all .ensures) (c .if1 .taken))
 
--- src/feed.rt:271:9
 same-length-7 : tie.Need-same-length-7
 same-length-7 c = search needs
 
--- src/feed.rt:271:9
 same-length-8 : tie.Need-same-length-8
 same-length-8 c = search needs
 
--- src/feed.rt:271:9
 same-length-9 : tie.Need-same-length-9
 same-length-9 c = search needs
 
--- src/feed.rt:271:9
 same-length-10 : tie.Need-same-length-10
 same-length-10 c = search needs
 
--- src/feed.rt:271:9
 same-length-11 : tie.Need-same-length-11
 same-length-11 c = search needs
 
--- src/feed.rt:271:9
 same-length-12 : tie.Need-same-length-12
 same-length-12 c = search needs
 
--- src/feed.rt:271:9
 returns-2 : tie.Need-returns-2
 unfolding feedCall
 returns-2 c = rw (yes (c .before .before .has-all .ensures) (c .before .if1 .left), lt-leb _ _ (c .if2 .taken))
 
--- src/feed.rt:273:5
 read-chunk-requires : tie.Need-read-chunk-requires
 read-chunk-requires c κs = yes (c .before .before .before .before .before .before .before .before .has-all .ensures) (c .before .before .before .before .before .before .before .if1 .left)
 
--- src/feed.rt:253:1
 same-length-13 : tie.Need-same-length-13
 same-length-13 c = search needs
 
--- src/feed.rt:253:1
 same-length-14 : tie.Need-same-length-14
 same-length-14 c = search needs
 
--- src/feed.rt:253:1
 same-length-15 : tie.Need-same-length-15
 same-length-15 c = search needs
 
--- src/feed.rt:253:1
 same-length-16 : tie.Need-same-length-16
 same-length-16 c = search needs
 
--- src/feed.rt:253:1
 same-length-17 : tie.Need-same-length-17
 same-length-17 c = search needs
 
--- src/feed.rt:253:1
 same-length-18 : tie.Need-same-length-18
 same-length-18 c = search needs
 
--- src/feed.rt:253:1
 returns-3 : tie.Need-returns-3
 unfolding feedCall
 returns-3 c = rw (yes (c .before .before .before .before .before .before .before .before .before .before .before .before .before .before .before .before .before .before .before .before .before .has-all .ensures) (c .before .before .before .before .before .before .before .before .before .before .before .before .before .before .before .before .before .before .before .before .if1 .left), le-leb _ _ (c .before .before .before .before .before .before .before .before .before .before .before .before .before .before .before .before .before .before .before .if2 .left)) (c .before .before .before .before .before .before .before .before .before .before .before .before .read-chunk .ensures)

@@ -13,127 +13,97 @@ use Rattle.pe_reassembler.specs.Steps.{handed}
 use Rattle.pe_reassembler.proofs.TableLaws.{yes, no}
 use Rattle.pe_reassembler.proofs.FeedLaws.{message-long}
 
--- src/feed.rt:300:9
 has-all-requires : tie.Need-has-all-requires
 has-all-requires c κs = search needs
 
--- src/feed.rt:301:9
 same-length : tie.Need-same-length
 same-length c = search needs
 
--- src/feed.rt:301:9
 same-length-2 : tie.Need-same-length-2
 same-length-2 c = search needs
 
--- src/feed.rt:301:9
 same-length-3 : tie.Need-same-length-3
 same-length-3 c = search needs
 
--- src/feed.rt:301:9
 same-length-4 : tie.Need-same-length-4
 same-length-4 c = search needs
 
--- src/feed.rt:301:9
 same-length-5 : tie.Need-same-length-5
 same-length-5 c = search needs
 
--- src/feed.rt:301:9
 same-length-6 : tie.Need-same-length-6
 same-length-6 c = search needs
 
--- src/feed.rt:301:9
 returns : tie.Need-returns
 unfolding messageCall
 returns c = rw (no (c .before .has-all .ensures) (c .if1 .taken))
 
--- src/feed.rt:303:9
 decode-requires : tie.Need-decode-requires
 decode-requires c κs = search needs
 
--- src/feed.rt:304:28
 enum-known-read : tie.Need-enum-known-read
 enum-known-read c = search needs
 
--- src/feed.rt:305:9
 enum-told : tie.Need-enum-told
 enum-told c = search needs
 
--- src/feed.rt:305:9
 no-message-requires : tie.Need-no-message-requires
 no-message-requires c κs = search needs
 
--- src/feed.rt:305:9
 same-length-7 : tie.Need-same-length-7
 same-length-7 c = search needs
 
--- src/feed.rt:305:9
 same-length-8 : tie.Need-same-length-8
 same-length-8 c = search needs
 
--- src/feed.rt:305:9
 same-length-9 : tie.Need-same-length-9
 same-length-9 c = search needs
 
--- src/feed.rt:305:9
 same-length-10 : tie.Need-same-length-10
 same-length-10 c = search needs
 
--- src/feed.rt:305:9
 same-length-11 : tie.Need-same-length-11
 same-length-11 c = search needs
 
--- src/feed.rt:305:9
 same-length-12 : tie.Need-same-length-12
 same-length-12 c = search needs
 
--- src/feed.rt:305:9
 returns-2 : tie.Need-returns-2
 unfolding messageCall
 returns-2 c =
     let g = ap (λ (x : MessageRead). messageTold x) (c .before .enum-told .given .1) in
     rw (yes (c .before .before .before .before .before .has-all .ensures) (c .before .before .before .before .if1 .left), c .no-message .ensures ∙ ap (λ (x : Reply Message). handed x) g, sym (c .before .before .before .decode .ensures) ∙ g)
 
--- src/feed.rt:308:62
 sub-read-chunk : tie.Need-sub-read-chunk
 sub-read-chunk c = let l = message-long _ _ (sym (c .before .before .before .before .before .before .before .decode .ensures) ∙ ap (λ (x : MessageRead). messageTold x) (c .before .before .before .before .before .read .given .1)) in omega (arith, l)
 
--- src/feed.rt:308:62
 part-read-chunk-start : tie.Need-part-read-chunk-start
 part-read-chunk-start c = let l = message-long _ _ (sym (c .before .before .before .before .before .before .before .decode .ensures) ∙ ap (λ (x : MessageRead). messageTold x) (c .before .before .before .before .before .read .given .1)) in omega (arith, l)
 
--- src/feed.rt:308:62
 part-read-chunk-end : tie.Need-part-read-chunk-end
 part-read-chunk-end c = search needs
 
--- src/feed.rt:308:5
 read-chunk-requires : tie.Need-read-chunk-requires
 read-chunk-requires c κs = yes (c .before .before .before .before .before .before .before .before .before .before .before .before .has-all .ensures) (c .before .before .before .before .before .before .before .before .before .before .before .if1 .left)
 
--- src/feed.rt:287:1
 same-length-13 : tie.Need-same-length-13
 same-length-13 c = search needs
 
--- src/feed.rt:287:1
 same-length-14 : tie.Need-same-length-14
 same-length-14 c = search needs
 
--- src/feed.rt:287:1
 same-length-15 : tie.Need-same-length-15
 same-length-15 c = search needs
 
--- src/feed.rt:287:1
 same-length-16 : tie.Need-same-length-16
 same-length-16 c = search needs
 
--- src/feed.rt:287:1
 same-length-17 : tie.Need-same-length-17
 same-length-17 c = search needs
 
--- src/feed.rt:287:1
 same-length-18 : tie.Need-same-length-18
 same-length-18 c = search needs
 
--- src/feed.rt:287:1
 returns-3 : tie.Need-returns-3
 unfolding messageCall
 returns-3 c =

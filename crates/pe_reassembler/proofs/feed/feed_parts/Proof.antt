@@ -12,107 +12,81 @@ lent b = memory (now (b .args .numbers)) (now (b .args .index)) (now (b .args .h
 abbrev chunk : tie.Start → Chunk
 chunk b = record { request-id = b .args .request-id; header = now (b .args .chunk-header); num-chunks = b .args .num-chunks; chunk-num = b .args .chunk-num; property = now (b .args .property) }
 
--- src/feed.rt:128:26
 add-feed-slot : tie.Need-add-feed-slot
 add-feed-slot c = search needs
 
--- src/feed.rt:128:9
 mul-feed-slot : tie.Need-mul-feed-slot
 mul-feed-slot c = search needs
 
--- src/feed.rt:128:9
 sub-feed-slot : tie.Need-sub-feed-slot
 sub-feed-slot c = search needs
 
--- src/feed.rt:128:9
 part-feed-slot-start : tie.Need-part-feed-slot-start
 part-feed-slot-start c = search needs
 
--- src/feed.rt:128:9
 part-feed-slot-end : tie.Need-part-feed-slot-end
 part-feed-slot-end c = search needs
 
--- src/feed.rt:129:30
 add-feed-slot-2 : tie.Need-add-feed-slot-2
 add-feed-slot-2 c = search needs
 
--- src/feed.rt:129:9
 mul-feed-slot-2 : tie.Need-mul-feed-slot-2
 mul-feed-slot-2 c = search needs
 
--- src/feed.rt:129:9
 sub-feed-slot-2 : tie.Need-sub-feed-slot-2
 sub-feed-slot-2 c = search needs
 
--- src/feed.rt:129:9
 part-feed-slot-start-2 : tie.Need-part-feed-slot-start-2
 part-feed-slot-start-2 c = search needs
 
--- src/feed.rt:129:9
 part-feed-slot-end-2 : tie.Need-part-feed-slot-end-2
 part-feed-slot-end-2 c = search needs
 
--- src/feed.rt:130:33
 add-feed-slot-3 : tie.Need-add-feed-slot-3
 add-feed-slot-3 c = search needs
 
--- src/feed.rt:130:9
 sub-feed-slot-3 : tie.Need-sub-feed-slot-3
 sub-feed-slot-3 c = search needs
 
--- src/feed.rt:130:9
 part-feed-slot-start-3 : tie.Need-part-feed-slot-start-3
 part-feed-slot-start-3 c = search needs
 
--- src/feed.rt:130:9
 part-feed-slot-end-3 : tie.Need-part-feed-slot-end-3
 part-feed-slot-end-3 c = search needs
 
--- src/feed.rt:131:31
 add-feed-slot-4 : tie.Need-add-feed-slot-4
 add-feed-slot-4 c = search needs
 
--- src/feed.rt:131:9
 sub-feed-slot-4 : tie.Need-sub-feed-slot-4
 sub-feed-slot-4 c = search needs
 
--- src/feed.rt:131:9
 part-feed-slot-start-4 : tie.Need-part-feed-slot-start-4
 part-feed-slot-start-4 c = search needs
 
--- src/feed.rt:131:9
 part-feed-slot-end-4 : tie.Need-part-feed-slot-end-4
 part-feed-slot-end-4 c = search needs
 
--- src/feed.rt:127:5
 feed-slot-requires : tie.Need-feed-slot-requires
 feed-slot-requires c κs = search needs
 
--- src/feed.rt:102:1
 same-length : tie.Need-same-length
 same-length c = search needs
 
--- src/feed.rt:102:1
 same-length-2 : tie.Need-same-length-2
 same-length-2 c = search needs
 
--- src/feed.rt:102:1
 same-length-3 : tie.Need-same-length-3
 same-length-3 c = search needs
 
--- src/feed.rt:102:1
 same-length-4 : tie.Need-same-length-4
 same-length-4 c = search needs
 
--- src/feed.rt:102:1
 same-length-5 : tie.Need-same-length-5
 same-length-5 c = search needs
 
--- src/feed.rt:102:1
 same-length-6 : tie.Need-same-length-6
 same-length-6 c = search needs
 
--- src/feed.rt:102:1
 returns : tie.Need-returns
 returns c =
     let b = c .before .before .before .before .before .before .before .before .before .before .before .before .before .before .before .before .before .before .before .before .before .before .before .before .before .before .before in

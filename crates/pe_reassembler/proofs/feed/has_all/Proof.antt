@@ -5,21 +5,17 @@ use borrow.Author.Tests.{lt-leb, le-leb}
 use Rattle.pe_reassembler.specs.Feed.{hasAll}
 use Rattle.pe_reassembler.proofs.TableLaws.{yes, no}
 
--- src/feed.rt:55:9
 has-rooms-requires : tie.Need-has-rooms-requires
 has-rooms-requires c κs = search needs
 
--- src/feed.rt:56:9
 returns : tie.Need-returns
 unfolding hasAll
 returns c = rw (no (c .before .has-rooms .ensures) (c .if1 .taken))
 
--- src/feed.rt:59:9
 returns-2 : tie.Need-returns-2
 unfolding hasAll
 returns-2 c = rw (yes (c .before .before .before .has-rooms .ensures) (c .before .before .if1 .left), lt-leb _ _ (c .if2 .taken))
 
--- src/feed.rt:52:1
 returns-3 : tie.Need-returns-3
 unfolding hasAll
 returns-3 c = rw (yes (c .before .before .before .before .has-rooms .ensures) (c .before .before .before .if1 .left), le-leb _ _ (c .before .if2 .left))

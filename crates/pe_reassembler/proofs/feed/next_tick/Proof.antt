@@ -4,16 +4,13 @@ use Rattle.pe_reassembler.proofs.feed.next_tick.Tie as tie
 use borrow.Author.Tests.{lt-ltb, le-ltb}
 use Rattle.pe_reassembler.specs.Feed.{nextTick}
 
--- src/feed.rt:38:16
 add-result : tie.Need-add-result
 add-result c = search needs
 
--- src/feed.rt:38:9
 returns : tie.Need-returns
 unfolding nextTick
 returns c = rw (lt-ltb _ _ (c .if1 .taken))
 
--- src/feed.rt:34:1
 returns-2 : tie.Need-returns-2
 unfolding nextTick
 returns-2 c = rw (le-ltb _ _ (c .if1 .left))

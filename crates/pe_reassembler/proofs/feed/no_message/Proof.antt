@@ -6,19 +6,15 @@ use Rattle.midici_core.specs.declared.pe_msg.MessageRead.{MessageRead}
 use Rattle.midici_core.specs.Message.{messageTold}
 use Rattle.pe_reassembler.specs.Steps.{handed}
 
--- src/feed.rt:244:34
 enum-told : tie.Need-enum-told
 enum-told c = search needs
 
--- src/feed.rt:245:30
 enum-known-read : tie.Need-enum-known-read
 enum-known-read c = search needs
 
--- src/feed.rt:240:1
 returns : tie.Need-returns
 returns c = search needs
 
--- src/feed.rt:240:1
 returns-2 : tie.Need-returns-2
 returns-2 c = sym (ap (λ (x : MessageRead). handed (messageTold x)) (c .before .read .given .1))
 

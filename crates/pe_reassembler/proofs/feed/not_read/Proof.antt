@@ -6,19 +6,15 @@ use Rattle.pe_frame.specs.declared.frame.ChunkRead.{ChunkRead}
 use Rattle.pe_frame.specs.Chunk.{chunkTold}
 use Rattle.pe_reassembler.specs.Steps.{handed}
 
--- src/feed.rt:187:32
 enum-told : tie.Need-enum-told
 enum-told c = search needs
 
--- src/feed.rt:188:28
 enum-known-read : tie.Need-enum-known-read
 enum-known-read c = search needs
 
--- src/feed.rt:183:1
 returns : tie.Need-returns
 returns c = search needs
 
--- src/feed.rt:183:1
 returns-2 : tie.Need-returns-2
 returns-2 c = sym (ap (λ (x : ChunkRead). handed (chunkTold x)) (c .before .read .given .1))
 

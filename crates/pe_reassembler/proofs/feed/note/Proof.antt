@@ -8,27 +8,21 @@ use mathlib.Core.List.{List}
 use Rattle.pe_reassembler.proofs.FeedLaws.{length-bind}
 use denote.Ref.{now}
 
--- src/feed.rt:93:8
 is-damaged-requires : tie.Need-is-damaged-requires
 is-damaged-requires c κs = search needs
 
--- src/feed.rt:94:9
 returns : tie.Need-returns
 returns c = search needs
 
--- src/feed.rt:96:5
 slice-write-numbers : tie.Need-slice-write-numbers
 slice-write-numbers c = search needs
 
--- src/feed.rt:97:5
 bind-to-requires : tie.Need-bind-to-requires
 bind-to-requires c κs = search needs
 
--- src/feed.rt:89:1
 same-length : tie.Need-same-length
 same-length c = ap (λ (x : List ℕ). length x) (c .before .before .bind-to .ensures) ∙ length-bind _ _ _ ∙ length-set (now (c .before .before .before .before .before .before .before .args .numbers)) 0 (c .before .before .before .before .before .before .before .args .tick)
 
--- src/feed.rt:89:1
 returns-2 : tie.Need-returns-2
 returns-2 c = rw (sym (c .before .before .before .before .before .is-damaged .ensures) ∙ c .before .before .before .before .if1 .left) (c .before .before .bind-to .ensures)
 

@@ -22,31 +22,24 @@ fits b = record-long (b .args .shape) (lent b) (b .args .peer) (chunk b) (b .arg
 range : (b : tie.Start) → Ranges (b .args .shape)
 range b = in-range (b .args .shape) (now (b .args .numbers)) (lent-told (b .args .shape) (lent b) (b .pre .0) .numbers)
 
--- src/feed.rt:167:9
 slot-at-requires : tie.Need-slot-at-requires
 slot-at-requires c κs = (fits (c .before .before .before .before .before .before .before .before) .0, c .before .before .before .before .before .before .before .before .pre .1 .1)
 
--- src/feed.rt:171:9
 room-at-requires : tie.Need-room-at-requires
 room-at-requires c κs = let r = range (c .before .before .before .before .before .before .before .before .before) .records in (fits (c .before .before .before .before .before .before .before .before .before) .0, c .before .before .before .before .before .before .before .before .before .pre .1 .1, omega (arith, r))
 
--- src/feed.rt:172:9
 room-at-requires-2 : tie.Need-room-at-requires-2
 room-at-requires-2 c κs = let r = range (c .before .before .before .before .before .before .before .before .before .before) .header in (fits (c .before .before .before .before .before .before .before .before .before .before) .0, c .before .before .before .before .before .before .before .before .before .before .pre .1 .1, omega (arith, r))
 
--- src/feed.rt:173:9
 room-at-requires-3 : tie.Need-room-at-requires-3
 room-at-requires-3 c κs = (fits (c .before .before .before .before .before .before .before .before .before .before .before) .0, c .before .before .before .before .before .before .before .before .before .before .before .pre .1 .1, range (c .before .before .before .before .before .before .before .before .before .before .before) .body)
 
--- src/feed.rt:174:26
 slice-read-next-tick : tie.Need-slice-read-next-tick
 slice-read-next-tick c = let r = fits (c .before .before .before .before .before .before .before .before .before .before .before .before .before) .1 in omega (arith, r)
 
--- src/feed.rt:174:9
 next-tick-requires : tie.Need-next-tick-requires
 next-tick-requires c κs = search needs
 
--- src/feed.rt:175:9
 feed-parts-requires : tie.Need-feed-parts-requires
 feed-parts-requires c κs =
     let b = c .before .before .before .before .before .before .before .before .before .before .before .before .before .before .before .before .before .before .before .before in
@@ -58,35 +51,27 @@ feed-parts-requires c κs =
     let a = arenas-in (b .args .shape) (lent b) (b .args .peer) (chunk b) (b .args .now-ms) (b .args .p) (b .args .s) (b .pre .0) (b .pre .1 .0) (b .pre .1 .1) in
     (omega (arith, r, l, e), rw (c .before .before .before .before .before .before .before .before .before .before .room-at .ensures) i, rw (c .before .before .before .before .before .before .before .before .before .room-at2 .ensures) h, rw (c .before .before .before .before .before .before .before .before .room-at3 .ensures) a)
 
--- src/feed.rt:179:5
 note-requires : tie.Need-note-requires
 note-requires c κs = let r = fits (c .before .before .before .before .before .before .before .before .before .before .before .before .before .before .before .before .before .before .before .before .before .before .before .before .before .before .before .before .before .before .before .before .before .before) in search (needs, r)
 
--- src/feed.rt:145:1
 same-length : tie.Need-same-length
 same-length c = search needs
 
--- src/feed.rt:145:1
 same-length-2 : tie.Need-same-length-2
 same-length-2 c = search needs
 
--- src/feed.rt:145:1
 same-length-3 : tie.Need-same-length-3
 same-length-3 c = search needs
 
--- src/feed.rt:145:1
 same-length-4 : tie.Need-same-length-4
 same-length-4 c = search needs
 
--- src/feed.rt:145:1
 same-length-5 : tie.Need-same-length-5
 same-length-5 c = search needs
 
--- src/feed.rt:145:1
 same-length-6 : tie.Need-same-length-6
 same-length-6 c = search needs
 
--- src/feed.rt:145:1
 returns : tie.Need-returns
 returns c =
     let b = c .before .before .before .before .before .before .before .before .before .before .before .before .before .before .before .before .before .before .before .before .before .before .before .before .before .before .before .before .before .before .before .before .before .before .before .before .before in

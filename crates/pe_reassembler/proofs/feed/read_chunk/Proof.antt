@@ -7,57 +7,44 @@ use Rattle.pe_frame.specs.declared.frame.ChunkRead.{ChunkRead}
 use Rattle.pe_frame.specs.Chunk.{Fields, chunkTold}
 use Rattle.pe_reassembler.specs.Steps.{handed}
 
--- src/feed.rt:245:9
 decode-fields-requires : tie.Need-decode-fields-requires
 decode-fields-requires c κs = search needs
 
--- src/feed.rt:246:26
 enum-known-read : tie.Need-enum-known-read
 enum-known-read c = search needs
 
--- src/feed.rt:247:9
 enum-told : tie.Need-enum-told
 enum-told c = search needs
 
--- src/feed.rt:247:9
 not-read-requires : tie.Need-not-read-requires
 not-read-requires c κs = search needs
 
--- src/feed.rt:247:9
 returns : tie.Need-returns
 returns c =
     let g = ap (λ (x : ChunkRead). chunkTold x) (c .before .enum-told .given .1) in
     rw (c .not-read .ensures ∙ ap (λ (x : Reply Fields). handed x) g, sym (c .before .before .before .decode-fields .ensures) ∙ g)
 
--- src/feed.rt:249:5
 at-table-requires : tie.Need-at-table-requires
 at-table-requires c κs = (c .before .before .before .before .before .before .before .before .before .before .before .before .before .before .before .before .before .pre, sym (c .before .before .before .before .before .before .before .before .before .decode-fields .ensures) ∙ ap (λ (x : ChunkRead). chunkTold x) (c .before .before .before .before .before .before .before .read .given .1))
 
--- src/feed.rt:230:1
 same-length : tie.Need-same-length
 same-length c = search needs
 
--- src/feed.rt:230:1
 same-length-2 : tie.Need-same-length-2
 same-length-2 c = search needs
 
--- src/feed.rt:230:1
 same-length-3 : tie.Need-same-length-3
 same-length-3 c = search needs
 
--- src/feed.rt:230:1
 same-length-4 : tie.Need-same-length-4
 same-length-4 c = search needs
 
--- src/feed.rt:230:1
 same-length-5 : tie.Need-same-length-5
 same-length-5 c = search needs
 
--- src/feed.rt:230:1
 same-length-6 : tie.Need-same-length-6
 same-length-6 c = search needs
 
--- src/feed.rt:230:1
 returns-2 : tie.Need-returns-2
 returns-2 c = rw (sym (c .before .before .before .before .before .before .before .before .before .before .before .before .before .before .before .before .before .before .before .before .before .before .decode-fields .ensures) ∙ ap (λ (x : ChunkRead). chunkTold x) (c .before .before .before .before .before .before .before .before .before .before .before .before .before .before .before .before .before .before .before .before .read .given .1)) (c .before .before .before .before .before .before .before .before .before .before .before .before .at-table .ensures)
 

@@ -3,19 +3,15 @@ use Rattle.pe_reassembler.proofs.feed.room_at.Statement.{statement}
 use Rattle.pe_reassembler.proofs.feed.room_at.Tie as tie
 use Rattle.pe_reassembler.proofs.FeedLaws.{room-below}
 
--- src/feed.rt:48:6
 mul-result : tie.Need-mul-result
 mul-result c = search needs
 
--- src/feed.rt:48:6
 add-result : tie.Need-add-result
 add-result c = search needs
 
--- src/feed.rt:48:5
 mul-result-2 : tie.Need-mul-result-2
 mul-result-2 c = let q = c .pre in let l = room-below (c .args .size) (c .args .p) (c .args .s) (q .0) (q .1) (q .2) in search (needs, l)
 
--- src/feed.rt:44:1
 returns : tie.Need-returns
 returns c = search needs
 

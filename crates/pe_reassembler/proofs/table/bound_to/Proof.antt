@@ -4,32 +4,25 @@ use Rattle.pe_reassembler.proofs.table.bound_to.Tie as tie
 use Rattle.pe_reassembler.proofs.TableLaws.{yes, no}
 use Rattle.pe_reassembler.specs.Table.{boundTo}
 
--- src/table.rt:91:9
 is-bound-requires : tie.Need-is-bound-requires
 is-bound-requires c κs = search needs
 
--- src/table.rt:92:9
 returns : tie.Need-returns
 unfolding boundTo
 returns c = rw (no (c .before .is-bound .ensures) (c .if1 .taken))
 
--- src/table.rt:94:9
 peer-at-requires : tie.Need-peer-at-requires
 peer-at-requires c κs = search needs
 
--- src/table.rt:95:13
 add-result : tie.Need-add-result
 add-result c = search needs
 
--- src/table.rt:95:5
 mul-result : tie.Need-mul-result
 mul-result c = search needs
 
--- src/table.rt:95:5
 shared-slice-read-result : tie.Need-shared-slice-read-result
 shared-slice-read-result c = search needs
 
--- src/table.rt:87:1
 returns-2 : tie.Need-returns-2
 unfolding boundTo
 returns-2 c = rw (yes (c .before .before .before .is-bound .ensures) (c .before .before .if1 .left), c .before .peer-at .ensures)

@@ -6,43 +6,33 @@ use Rattle.pe_reassembler.proofs.table.clear.Tie as tie
 use denote.Ref.{now}
 use Rattle.pe_slot.proofs.SlotWords.{clear-words}
 
--- src/table.rt:243:5
 slice-write-words : tie.Need-slice-write-words
 slice-write-words c = search needs
 
--- src/table.rt:244:5
 slice-write-words-2 : tie.Need-slice-write-words-2
 slice-write-words-2 c = search needs
 
--- src/table.rt:245:5
 slice-write-words-3 : tie.Need-slice-write-words-3
 slice-write-words-3 c = search needs
 
--- src/table.rt:246:5
 slice-write-words-4 : tie.Need-slice-write-words-4
 slice-write-words-4 c = search needs
 
--- src/table.rt:247:5
 slice-write-words-5 : tie.Need-slice-write-words-5
 slice-write-words-5 c = simp length-set (omega arith)
 
--- src/table.rt:248:5
 slice-write-words-6 : tie.Need-slice-write-words-6
 slice-write-words-6 c = simp length-set (omega arith)
 
--- src/table.rt:249:5
 slice-write-words-7 : tie.Need-slice-write-words-7
 slice-write-words-7 c = simp length-set (omega arith)
 
--- src/table.rt:250:5
 slice-write-words-8 : tie.Need-slice-write-words-8
 slice-write-words-8 c = simp length-set (omega arith)
 
--- src/table.rt:239:1
 same-length : tie.Need-same-length
 same-length c = search needs
 
--- src/table.rt:239:1
 returns : tie.Need-returns
 returns c = clear-words (now (c .args .words)) (c .pre)
 

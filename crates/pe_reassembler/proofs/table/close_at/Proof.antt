@@ -3,39 +3,30 @@ use Rattle.pe_reassembler.proofs.table.close_at.Statement.{statement}
 use Rattle.pe_reassembler.proofs.table.close_at.Tie as tie
 use Rattle.pe_reassembler.proofs.TableClose.{close-back}
 
--- src/table.rt:258:9
 slot-at-requires : tie.Need-slot-at-requires
 slot-at-requires c κs = search needs
 
--- src/table.rt:259:28
 add-clear : tie.Need-add-clear
 add-clear c = search needs
 
--- src/table.rt:259:11
 mul-clear : tie.Need-mul-clear
 mul-clear c = search needs
 
--- src/table.rt:259:11
 sub-clear : tie.Need-sub-clear
 sub-clear c = search needs
 
--- src/table.rt:259:11
 part-clear-start : tie.Need-part-clear-start
 part-clear-start c = search needs
 
--- src/table.rt:259:11
 part-clear-end : tie.Need-part-clear-end
 part-clear-end c = search needs
 
--- src/table.rt:259:5
 clear-requires : tie.Need-clear-requires
 clear-requires c κs = search needs
 
--- src/table.rt:254:1
 same-length : tie.Need-same-length
 same-length c = search needs
 
--- src/table.rt:254:1
 returns : tie.Need-returns
 returns c = close-back _ _ _ _ _ (c .before .before .before .before .slot-at .ensures) (c .before .before .clear .ensures)
 

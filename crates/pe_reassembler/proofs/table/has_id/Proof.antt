@@ -4,32 +4,25 @@ use Rattle.pe_reassembler.proofs.table.has_id.Tie as tie
 use Rattle.pe_reassembler.proofs.TableLaws.{yes, no}
 use Rattle.pe_reassembler.specs.Table.{hasId}
 
--- src/table.rt:128:9
 is-active-requires : tie.Need-is-active-requires
 is-active-requires c κs = search needs
 
--- src/table.rt:129:9
 returns : tie.Need-returns
 unfolding hasId
 returns c = rw (no (c .before .is-active .ensures) (c .if1 .taken))
 
--- src/table.rt:131:9
 slot-at-requires : tie.Need-slot-at-requires
 slot-at-requires c κs = search needs
 
--- src/table.rt:132:13
 add-result : tie.Need-add-result
 add-result c = search needs
 
--- src/table.rt:132:5
 mul-result : tie.Need-mul-result
 mul-result c = search needs
 
--- src/table.rt:132:5
 shared-slice-read-result : tie.Need-shared-slice-read-result
 shared-slice-read-result c = search needs
 
--- src/table.rt:124:1
 returns-2 : tie.Need-returns-2
 unfolding hasId
 returns-2 c = rw (yes (c .before .before .before .is-active .ensures) (c .before .before .if1 .left), c .before .slot-at .ensures)

@@ -5,24 +5,19 @@ use Rattle.pe_reassembler.proofs.table.has_numbers.Tie as tie
 use Rattle.pe_reassembler.proofs.TableLaws.{ranges, yes, no}
 use Rattle.pe_reassembler.specs.Table.{hasNumbers}
 
--- src/table.rt:34:9
 in-range-requires : tie.Need-in-range-requires
 in-range-requires c κs = search needs
 
--- src/table.rt:35:9
 returns : tie.Need-returns
 unfolding hasNumbers
 returns c = rw (no (c .before .in-range .ensures) (c .if1 .taken))
 
--- src/table.rt:37:9
 mul-result : tie.Need-mul-result
 mul-result c = let r = ranges _ (yes (c .before .before .in-range .ensures) (c .before .if1 .left)) in omega arith
 
--- src/table.rt:37:5
 add-result : tie.Need-add-result
 add-result c = let r = ranges _ (yes (c .before .before .in-range .ensures) (c .before .if1 .left)) in omega arith
 
--- src/table.rt:31:1
 returns-2 : tie.Need-returns-2
 unfolding hasNumbers
 returns-2 c = rw (yes (c .before .before .in-range .ensures) (c .before .if1 .left))

@@ -5,46 +5,38 @@ use Rattle.pe_reassembler.proofs.table.has_rooms.Tie as tie
 use Rattle.pe_reassembler.proofs.TableLaws.{in-range, yes, no}
 use Rattle.pe_reassembler.specs.Table.{hasRooms}
 
--- src/table.rt:51:9
 has-numbers-requires : tie.Need-has-numbers-requires
 has-numbers-requires c κs = search needs
 
--- src/table.rt:52:9
 returns : tie.Need-returns
 unfolding hasRooms
 returns c = rw (no (c .before .has-numbers .ensures) (c .if1 .taken))
 
--- src/table.rt:54:9
 rooms-fit-requires : tie.Need-rooms-fit-requires
 rooms-fit-requires c κs = let r = in-range _ _ (yes (c .before .has-numbers .ensures) (c .if1 .left)) in omega arith
 
--- src/table.rt:55:9
 returns-2 : tie.Need-returns-2
 unfolding hasRooms
 returns-2 c =
     let k = c .before .before in
     rw (yes (k .before .has-numbers .ensures) (k .if1 .left), no (c .before .rooms-fit .ensures) (c .if2 .taken))
 
--- src/table.rt:57:9
 rooms-fit-requires-2 : tie.Need-rooms-fit-requires-2
 rooms-fit-requires-2 c κs =
     let k = c .before .before in let r = in-range _ _ (yes (k .before .has-numbers .ensures) (k .if1 .left)) in
     omega arith
 
--- src/table.rt:58:9
 returns-3 : tie.Need-returns-3
 unfolding hasRooms
 returns-3 c =
     let k = c .before .before .before .before in
     rw (yes (k .before .has-numbers .ensures) (k .if1 .left), yes (c .before .before .before .rooms-fit .ensures) (c .before .before .if2 .left), no (c .before .rooms-fit2 .ensures) (c .if3 .taken))
 
--- src/table.rt:60:5
 rooms-fit-requires-3 : tie.Need-rooms-fit-requires-3
 rooms-fit-requires-3 c κs =
     let k = c .before .before .before .before in let r = in-range _ _ (yes (k .before .has-numbers .ensures) (k .if1 .left)) in
     omega arith
 
--- src/table.rt:48:1
 returns-4 : tie.Need-returns-4
 unfolding hasRooms
 returns-4 c =

@@ -3,22 +3,18 @@ use Rattle.pe_reassembler.proofs.table.in_range.Tie as tie
 use borrow.Author.Tests.{le-leb, lt-leb}
 use Rattle.pe_reassembler.specs.Table.{inRange}
 
--- src/table.rt:20:9
 returns : tie.Need-returns
 unfolding inRange
 returns c = rw (lt-leb _ _ (c .if1 .taken))
 
--- src/table.rt:23:9
 returns-2 : tie.Need-returns-2
 unfolding inRange
 returns-2 c = rw (le-leb _ _ (c .before .before .if1 .left), lt-leb _ _ (c .if2 .taken))
 
--- src/table.rt:26:9
 returns-3 : tie.Need-returns-3
 unfolding inRange
 returns-3 c = rw (le-leb _ _ (c .before .before .before .before .if1 .left), le-leb _ _ (c .before .before .if2 .left), lt-leb _ _ (c .if3 .taken))
 
--- src/table.rt:16:1
 returns-4 : tie.Need-returns-4
 unfolding inRange
 returns-4 c = rw (le-leb _ _ (c .before .before .before .before .before .if1 .left), le-leb _ _ (c .before .before .before .if2 .left), le-leb _ _ (c .before .if3 .left))

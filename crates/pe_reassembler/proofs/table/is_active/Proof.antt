@@ -3,19 +3,15 @@ use Rattle.pe_reassembler.proofs.table.is_active.Statement.{statement}
 use Rattle.pe_reassembler.proofs.table.is_active.Tie as tie
 use Rattle.pe_reassembler.specs.Table.{isActive}
 
--- src/table.rt:103:9
 slot-at-requires : tie.Need-slot-at-requires
 slot-at-requires c κs = search needs
 
--- src/table.rt:104:5
 mul-result : tie.Need-mul-result
 mul-result c = search needs
 
--- src/table.rt:104:5
 shared-slice-read-result : tie.Need-shared-slice-read-result
 shared-slice-read-result c = search needs
 
--- src/table.rt:99:1
 returns : tie.Need-returns
 unfolding isActive
 returns c = rw (c .before .slot-at .ensures)

@@ -3,19 +3,15 @@ use Rattle.pe_reassembler.proofs.table.is_bound.Statement.{statement}
 use Rattle.pe_reassembler.proofs.table.is_bound.Tie as tie
 use Rattle.pe_reassembler.specs.Table.{isBound}
 
--- src/table.rt:83:9
 peer-at-requires : tie.Need-peer-at-requires
 peer-at-requires c κs = search needs
 
--- src/table.rt:84:5
 mul-result : tie.Need-mul-result
 mul-result c = search needs
 
--- src/table.rt:84:5
 shared-slice-read-result : tie.Need-shared-slice-read-result
 shared-slice-read-result c = search needs
 
--- src/table.rt:79:1
 returns : tie.Need-returns
 unfolding isBound
 returns c = rw (c .before .peer-at .ensures)

@@ -5,19 +5,15 @@ use Rattle.pe_reassembler.proofs.table.or_else.Tie as tie
 use Rattle.pe_reassembler.proofs.TableLaws.{or-here}
 use Rattle.pe_reassembler.specs.Table.{placeTold}
 
--- src/table.rt:186:19
 enum-known-a : tie.Need-enum-known-a
 enum-known-a c = search needs
 
--- src/table.rt:187:27
 enum-told : tie.Need-enum-told
 enum-told c = search needs
 
--- src/table.rt:182:1
 returns : tie.Need-returns
 returns c = or-here _ (ap placeTold (c .before .a .given .1))
 
--- src/table.rt:182:1
 returns-2 : tie.Need-returns-2
 returns-2 c = search needs
 

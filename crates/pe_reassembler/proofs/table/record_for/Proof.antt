@@ -4,15 +4,12 @@ use Rattle.pe_reassembler.proofs.table.record_for.Tie as tie
 use Rattle.pe_reassembler.proofs.TableLaws.{answer, or-here, or-next, or-same}
 use Rattle.pe_reassembler.specs.Table.{recordFor}
 
--- src/table.rt:196:9
 record-of-requires : tie.Need-record-of-requires
 record-of-requires c κs = search needs
 
--- src/table.rt:197:22
 enum-known-own : tie.Need-enum-known-own
 enum-known-own c = search needs
 
--- src/table.rt:198:9
 returns : tie.Need-returns
 unfolding recordFor
 returns c = or-here _ (answer (c .before .before .before .record-of .ensures) (c .before .own .given .1))
@@ -20,19 +17,15 @@ returns c = or-here _ (answer (c .before .before .before .record-of .ensures) (c
 enum-told : tie.Need-enum-told
 enum-told c = search needs
 
--- src/table.rt:200:9
 record-unbound-requires : tie.Need-record-unbound-requires
 record-unbound-requires c κs = search needs
 
--- src/table.rt:201:9
 record-idle-requires : tie.Need-record-idle-requires
 record-idle-requires c κs = search needs
 
--- src/table.rt:202:5
 or-else-requires : tie.Need-or-else-requires
 or-else-requires c κs = search needs
 
--- src/table.rt:192:1
 returns-2 : tie.Need-returns-2
 unfolding recordFor
 returns-2 c =

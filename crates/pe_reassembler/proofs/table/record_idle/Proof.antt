@@ -12,31 +12,24 @@ Inv-loop shape numbers p₀ p = Searched (isIdle numbers) (shape .«max_peers»)
 abbrev μ-loop : tie.MeasureT-loop
 μ-loop shape numbers p₀ p = shape .«max_peers» - p
 
--- src/table.rt:169:5
 loop-holds : tie.Need-loop-holds Inv-loop μ-loop
 loop-holds c = start _ _
 
--- src/table.rt:170:12
 is-idle-requires : tie.Need-is-idle-requires Inv-loop μ-loop
 is-idle-requires c κs = let l = numbers-long _ _ (c .before .before .before .before .pre) in omega arith
 
--- src/table.rt:171:13
 returns : tie.Need-returns Inv-loop μ-loop
 returns c = here (c .before .before .before .before .loop .inv) (c .before .before .if1 .taken) (sym (c .before .is-idle .ensures) ∙ c .if2 .taken)
 
--- src/table.rt:173:9
 add-p : tie.Need-add-p Inv-loop μ-loop
 add-p c = let l = numbers-long _ _ (c .before .before .before .before .before .before .pre) in omega arith
 
--- src/table.rt:169:5
 loop-less : tie.Need-loop-less Inv-loop μ-loop
 loop-less c = omega arith
 
--- src/table.rt:169:5
 loop-again : tie.Need-loop-again Inv-loop μ-loop
 loop-again c = next (c .before .before .before .before .loop .inv) (c .before .before .if1 .taken) (sym (c .before .is-idle .ensures) ∙ c .if2 .left)
 
--- src/table.rt:164:1
 returns-2 : tie.Need-returns-2 Inv-loop μ-loop
 returns-2 c = nowhere (c .before .before .loop .inv) (c .if1 .left)
 

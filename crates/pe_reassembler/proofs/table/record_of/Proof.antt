@@ -12,32 +12,25 @@ Inv-loop shape numbers peer p₀ p = Searched (boundTo numbers peer) (shape .«m
 abbrev μ-loop : tie.MeasureT-loop
 μ-loop shape numbers peer p₀ p = shape .«max_peers» - p
 
--- src/table.rt:141:5
 loop-holds : tie.Need-loop-holds Inv-loop μ-loop
 loop-holds c = start _ _
 
--- src/table.rt:142:12
 bound-to-requires : tie.Need-bound-to-requires Inv-loop μ-loop
 bound-to-requires c κs = let l = numbers-long _ _ (c .before .before .before .before .pre) in omega arith
 
--- src/table.rt:143:13
 returns : tie.Need-returns Inv-loop μ-loop
 unfolding recordOf
 returns c = here (c .before .before .before .before .loop .inv) (c .before .before .if1 .taken) (sym (c .before .bound-to .ensures) ∙ c .if2 .taken)
 
--- src/table.rt:145:9
 add-p : tie.Need-add-p Inv-loop μ-loop
 add-p c = let l = numbers-long _ _ (c .before .before .before .before .before .before .pre) in omega arith
 
--- src/table.rt:141:5
 loop-less : tie.Need-loop-less Inv-loop μ-loop
 loop-less c = omega arith
 
--- src/table.rt:141:5
 loop-again : tie.Need-loop-again Inv-loop μ-loop
 loop-again c = next (c .before .before .before .before .loop .inv) (c .before .before .if1 .taken) (sym (c .before .bound-to .ensures) ∙ c .if2 .left)
 
--- src/table.rt:136:1
 returns-2 : tie.Need-returns-2 Inv-loop μ-loop
 unfolding recordOf
 returns-2 c = nowhere (c .before .before .loop .inv) (c .if1 .left)

@@ -13,31 +13,24 @@ Inv-loop shape numbers p₀ p = Searched (λ (i : ℕ). not (isBound numbers i))
 abbrev μ-loop : tie.MeasureT-loop
 μ-loop shape numbers p₀ p = shape .«max_peers» - p
 
--- src/table.rt:155:5
 loop-holds : tie.Need-loop-holds Inv-loop μ-loop
 loop-holds c = start _ _
 
--- src/table.rt:156:13
 is-bound-requires : tie.Need-is-bound-requires Inv-loop μ-loop
 is-bound-requires c κs = let l = numbers-long _ _ (c .before .before .before .before .pre) in omega arith
 
--- src/table.rt:157:13
 returns : tie.Need-returns Inv-loop μ-loop
 returns c = here (c .before .before .before .before .loop .inv) (c .before .before .if1 .taken) (ap not (sym (c .before .is-bound .ensures)) ∙ c .if2 .taken)
 
--- src/table.rt:159:9
 add-p : tie.Need-add-p Inv-loop μ-loop
 add-p c = let l = numbers-long _ _ (c .before .before .before .before .before .before .pre) in omega arith
 
--- src/table.rt:155:5
 loop-less : tie.Need-loop-less Inv-loop μ-loop
 loop-less c = omega arith
 
--- src/table.rt:155:5
 loop-again : tie.Need-loop-again Inv-loop μ-loop
 loop-again c = next (c .before .before .before .before .loop .inv) (c .before .before .if1 .taken) (ap not (sym (c .before .is-bound .ensures)) ∙ c .if2 .left)
 
--- src/table.rt:150:1
 returns-2 : tie.Need-returns-2 Inv-loop μ-loop
 returns-2 c = nowhere (c .before .before .loop .inv) (c .if1 .left)
 

@@ -4,15 +4,12 @@ use Rattle.pe_reassembler.proofs.table.rooms_fit.Statement.{statement}
 use Rattle.pe_reassembler.proofs.table.rooms_fit.Tie as tie
 use Rattle.pe_reassembler.proofs.TableLaws.{rooms-below}
 
--- src/table.rt:45:5
 mul-result : tie.Need-mul-result
 mul-result c = search needs
 
--- src/table.rt:45:5
 mul-result-2 : tie.Need-mul-result-2
 mul-result-2 c = let r = rooms-below (c .args .«max-peers») (c .args .size) (c .pre .0) (c .pre .1) in omega arith
 
--- src/table.rt:41:1
 returns : tie.Need-returns
 returns c = search needs
 

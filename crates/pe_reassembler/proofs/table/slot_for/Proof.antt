@@ -4,15 +4,12 @@ use Rattle.pe_reassembler.proofs.table.slot_for.Tie as tie
 use Rattle.pe_reassembler.proofs.TableLaws.{answer, or-here, or-next}
 use Rattle.pe_reassembler.specs.Table.{slotFor}
 
--- src/table.rt:228:9
 slot-open-requires : tie.Need-slot-open-requires
 slot-open-requires c κs = search needs
 
--- src/table.rt:229:22
 enum-known-open : tie.Need-enum-known-open
 enum-known-open c = search needs
 
--- src/table.rt:230:9
 returns : tie.Need-returns
 unfolding slotFor
 returns c = or-here _ (answer (c .before .before .before .slot-open .ensures) (c .before .«open» .given .1))
@@ -20,11 +17,9 @@ returns c = or-here _ (answer (c .before .before .before .slot-open .ensures) (c
 enum-told : tie.Need-enum-told
 enum-told c = search needs
 
--- src/table.rt:232:5
 slot-free-requires : tie.Need-slot-free-requires
 slot-free-requires c κs = search needs
 
--- src/table.rt:224:1
 returns-2 : tie.Need-returns-2
 unfolding slotFor
 returns-2 c = or-next (answer (c .before .before .before .slot-open .ensures) (c .before .enum-told .given .1)) (c .slot-free .ensures)

@@ -13,31 +13,24 @@ Inv-loop numbers p s₀ s = Searched (λ (i : ℕ). not (isActive numbers p i)) 
 abbrev μ-loop : tie.MeasureT-loop
 μ-loop numbers p s₀ s = 4 - s
 
--- src/table.rt:214:5
 loop-holds : tie.Need-loop-holds Inv-loop μ-loop
 loop-holds c = start _ _
 
--- src/table.rt:215:13
 is-active-requires : tie.Need-is-active-requires Inv-loop μ-loop
 is-active-requires c κs = omega arith
 
--- src/table.rt:216:13
 returns : tie.Need-returns Inv-loop μ-loop
 returns c = here (c .before .before .before .loop .inv) (c .before .before .loop-test .taken) (ap not (sym (c .before .is-active .ensures)) ∙ c .if1 .taken)
 
--- src/table.rt:218:9
 add-s : tie.Need-add-s Inv-loop μ-loop
 add-s c = omega arith
 
--- src/table.rt:214:5
 loop-less : tie.Need-loop-less Inv-loop μ-loop
 loop-less c = omega arith
 
--- src/table.rt:214:5
 loop-again : tie.Need-loop-again Inv-loop μ-loop
 loop-again c = next (c .before .before .before .loop .inv) (c .before .before .loop-test .taken) (ap not (sym (c .before .is-active .ensures)) ∙ c .if1 .left)
 
--- src/table.rt:209:1
 returns-2 : tie.Need-returns-2 Inv-loop μ-loop
 returns-2 c = nowhere (c .before .loop .inv) (c .loop-test .left)
 

@@ -12,32 +12,25 @@ Inv-loop numbers p request-id s₀ s = Searched (hasId numbers request-id p) 4 s
 abbrev μ-loop : tie.MeasureT-loop
 μ-loop numbers p request-id s₀ s = 4 - s
 
--- src/table.rt:200:5
 loop-holds : tie.Need-loop-holds Inv-loop μ-loop
 loop-holds c = start _ _
 
--- src/table.rt:201:12
 has-id-requires : tie.Need-has-id-requires Inv-loop μ-loop
 has-id-requires c κs = omega arith
 
--- src/table.rt:202:13
 returns : tie.Need-returns Inv-loop μ-loop
 unfolding slotOpen
 returns c = here (c .before .before .before .loop .inv) (c .before .before .loop-test .taken) (sym (c .before .has-id .ensures) ∙ c .if1 .taken)
 
--- src/table.rt:204:9
 add-s : tie.Need-add-s Inv-loop μ-loop
 add-s c = omega arith
 
--- src/table.rt:200:5
 loop-less : tie.Need-loop-less Inv-loop μ-loop
 loop-less c = omega arith
 
--- src/table.rt:200:5
 loop-again : tie.Need-loop-again Inv-loop μ-loop
 loop-again c = next (c .before .before .before .loop .inv) (c .before .before .loop-test .taken) (sym (c .before .has-id .ensures) ∙ c .if1 .left)
 
--- src/table.rt:195:1
 returns-2 : tie.Need-returns-2 Inv-loop μ-loop
 unfolding slotOpen
 returns-2 c = nowhere (c .before .loop .inv) (c .loop-test .left)

@@ -8,97 +8,75 @@ use borrow.Author.Needs.{needs}
 use Rattle.pe_slot.proofs.slot.add_piece.Statement.{statement}
 use Rattle.pe_slot.proofs.slot.add_piece.Tie as tie
 
--- src/slot.rt:235:9
 clear-requires : tie.Need-clear-requires
 clear-requires c κs = search needs
 
--- src/slot.rt:236:9
 same-length : tie.Need-same-length
 same-length c = search needs
 
--- src/slot.rt:236:9
 returns : tie.Need-returns
 unfolding addPiece
 returns c = rw (eq-eqb _ _ (c .before .before .before .before .if1 .taken), c .before .before .clear .ensures)
 
--- src/slot.rt:239:9
 returns-2 : tie.Need-returns-2
 unfolding addPiece
 returns-2 c = rw (ne-eqb _ _ (c .before .if1 .left), c .if2 .taken)
 
--- src/slot.rt:241:15
 slice-read-len : tie.Need-slice-read-len
 slice-read-len c = search needs
 
--- src/slot.rt:243:9
 returns-3 : tie.Need-returns-3
 unfolding addPiece
 returns-3 c = rw (ne-eqb _ _ (c .before .before .before .if1 .left), c .before .before .if2 .left, le-ltb _ _ (c .if3 .taken))
 
--- src/slot.rt:245:14
 slice-read-at : tie.Need-slice-read-at
 slice-read-at c = search needs
 
--- src/slot.rt:246:15
 add-end : tie.Need-add-end
 add-end c = search needs
 
--- src/slot.rt:248:9
 clear-requires-2 : tie.Need-clear-requires-2
 clear-requires-2 c κs = search needs
 
--- src/slot.rt:249:9
 same-length-2 : tie.Need-same-length-2
 same-length-2 c = search needs
 
--- src/slot.rt:249:9
 returns-4 : tie.Need-returns-4
 unfolding addPiece
 returns-4 c =
     let u5 = c .before .before .before .before .before in
     rw (ne-eqb _ _ (u5 .before .before .before .before .if1 .left), u5 .before .before .before .if2 .left, lt-ltb _ _ (c .before .before .before .before .before .before .if3 .left), lt-leb _ _ (c .before .before .before .before .if4 .taken), c .before .before .clear2 .ensures)
 
--- src/slot.rt:251:18
 pack-requires : tie.Need-pack-requires
 pack-requires c κs = search needs
 
--- src/slot.rt:251:5
 mul-index : tie.Need-mul-index
 mul-index c = search needs
 
--- src/slot.rt:251:5
 slice-write-index : tie.Need-slice-write-index
 slice-write-index c = search needs
 
--- src/slot.rt:252:24
 add-words : tie.Need-add-words
 add-words c = search needs
 
--- src/slot.rt:252:5
 slice-write-words : tie.Need-slice-write-words
 slice-write-words c = search needs
 
--- src/slot.rt:253:5
 slice-write-words-2 : tie.Need-slice-write-words-2
 slice-write-words-2 c = search needs
 
--- src/slot.rt:254:5
 copy-in-requires : tie.Need-copy-in-requires
 copy-in-requires c κs = search needs
 
--- src/slot.rt:223:1
 same-length-3 : tie.Need-same-length-3
 same-length-3 c = search needs
 
--- src/slot.rt:223:1
 same-length-4 : tie.Need-same-length-4
 same-length-4 c = search needs
 
--- src/slot.rt:223:1
 same-length-5 : tie.Need-same-length-5
 same-length-5 c = search needs
 
--- src/slot.rt:223:1
 returns-5 : tie.Need-returns-5
 unfolding addPiece
 returns-5 c =

@@ -6,43 +6,33 @@ use borrow.Author.Needs.{needs}
 use Rattle.pe_slot.proofs.slot.clear.Statement.{statement}
 use Rattle.pe_slot.proofs.slot.clear.Tie as tie
 
--- src/slot.rt:160:5
 slice-write-words : tie.Need-slice-write-words
 slice-write-words c = search needs
 
--- src/slot.rt:161:5
 slice-write-words-2 : tie.Need-slice-write-words-2
 slice-write-words-2 c = search needs
 
--- src/slot.rt:162:5
 slice-write-words-3 : tie.Need-slice-write-words-3
 slice-write-words-3 c = search needs
 
--- src/slot.rt:163:5
 slice-write-words-4 : tie.Need-slice-write-words-4
 slice-write-words-4 c = search needs
 
--- src/slot.rt:164:5
 slice-write-words-5 : tie.Need-slice-write-words-5
 slice-write-words-5 c = simp length-set (omega arith)
 
--- src/slot.rt:165:5
 slice-write-words-6 : tie.Need-slice-write-words-6
 slice-write-words-6 c = simp length-set (omega arith)
 
--- src/slot.rt:166:5
 slice-write-words-7 : tie.Need-slice-write-words-7
 slice-write-words-7 c = simp length-set (omega arith)
 
--- src/slot.rt:167:5
 slice-write-words-8 : tie.Need-slice-write-words-8
 slice-write-words-8 c = simp length-set (omega arith)
 
--- src/slot.rt:156:1
 same-length : tie.Need-same-length
 same-length c = search needs
 
--- src/slot.rt:156:1
 returns : tie.Need-returns
 returns c = clear-words (now (c .args .words)) (c .pre)
 

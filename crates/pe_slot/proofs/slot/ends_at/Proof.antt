@@ -1,11 +1,9 @@
 use Rattle.pe_slot.proofs.slot.ends_at.Statement.{statement}
 use Rattle.pe_slot.proofs.slot.ends_at.Tie as tie
 
--- src/slot.rt:327:9
 returns : tie.Need-returns
 returns c = rw (c .if1 .taken)
 
--- src/slot.rt:323:1
 returns-2 : tie.Need-returns-2
 returns-2 c = rw (c .if1 .left)
 

@@ -45,11 +45,9 @@ is-sound c =
     sound _ _ _ (slot (start (first (c .before .before .before .before)))) _ (c .before .before .before .before .before .is-bounded .ensures) (c .before .before .scan .ensures) (c .before .ends-at .ensures)
     (c .before .before .before .before .if2 .left) (c .if3 .left)
 
--- src/slot.rt:350:9
 is-shaped-requires : tie.Need-is-shaped-requires
 is-shaped-requires c κs = search needs
 
--- src/slot.rt:358:9
 returns : tie.Need-returns
 unfolding isShaped
 returns c =
@@ -59,27 +57,21 @@ returns c =
     fed-unshaped (now (a .words)) (now (a .index)) (now (a .header)) (now (a .arena)) (chunk (u10)) (a .now-ms) (a .tick) (now (a .out-header)) (now (a .out-body))
     (unfold isShaped in (sym (c .before .is-shaped .ensures) ∙ not-true _ (c .if1 .taken)))
 
--- src/slot.rt:360:15
 slice-read-len : tie.Need-slice-read-len
 slice-read-len c = let n = shape (c .before) .nine in omega arith
 
--- src/slot.rt:361:15
 slice-read-end : tie.Need-slice-read-end
 slice-read-end c = let n = shape (c .before .before) .nine in omega arith
 
--- src/slot.rt:366:9
 slice-read-is-bounded : tie.Need-slice-read-is-bounded
 slice-read-is-bounded c = let n = shape (c .before .before .before) .nine in omega arith
 
--- src/slot.rt:367:9
 slice-read-is-bounded-2 : tie.Need-slice-read-is-bounded-2
 slice-read-is-bounded-2 c = let n = shape (c .before .before .before .before) .nine in omega arith
 
--- src/slot.rt:362:9
 is-bounded-requires : tie.Need-is-bounded-requires
 is-bounded-requires c κs = search needs
 
--- src/slot.rt:371:9
 returns-2 : tie.Need-returns-2
 returns-2 c =
     let u5 = c .before .before .before .before .before in
@@ -89,21 +81,17 @@ returns-2 c =
     fed-damaged (now (a .words)) (now (a .index)) (now (a .header)) (now (a .arena)) (chunk (u15 .before)) (a .now-ms) (a .tick) (now (a .out-header)) (now (a .out-body))
     (is-shaped (c .before .before .before .before .before .before)) (unbounded _ _ _ (slot (u15 .before)) (now (a .index)) (c .before .is-bounded .ensures) (c .if2 .taken))
 
--- src/slot.rt:373:9
 scan-requires : tie.Need-scan-requires
 scan-requires c κs =
     let u5 = c .before .before .before .before .before in
     let b = bounded (c .before) .held in let r = shape (u5 .before .before) .records in (b, omega arith)
 
--- src/slot.rt:375:9
 ends-at-requires : tie.Need-ends-at-requires
 ends-at-requires c κs = search needs
 
--- src/slot.rt:376:9
 same-length : tie.Need-same-length
 same-length c = search needs
 
--- src/slot.rt:376:9
 returns-3 : tie.Need-returns-3
 returns-3 c =
     let u5 = c .before .before .before .before .before in
@@ -114,15 +102,12 @@ returns-3 c =
     fed-damaged (now (a .words)) (now (a .index)) (now (a .header)) (now (a .arena)) (chunk (u20)) (a .now-ms) (a .tick) (now (a .out-header)) (now (a .out-body))
     (is-shaped (u10)) (unlaid _ _ _ (slot (u20)) _ (c .before .before .before .before .before .is-bounded .ensures) (c .before .before .scan .ensures) (c .before .ends-at .ensures) (c .if3 .taken))
 
--- src/slot.rt:378:25
 cast-if4 : tie.Need-cast-if4
 cast-if4 c = search needs
 
--- src/slot.rt:379:9
 same-length-2 : tie.Need-same-length-2
 same-length-2 c = search needs
 
--- src/slot.rt:379:9
 returns-4 : tie.Need-returns-4
 returns-4 c =
     let u5 = c .before .before .before .before .before in
@@ -133,14 +118,12 @@ returns-4 c =
     fed-long (now (a .words)) (now (a .index)) (now (a .header)) (now (a .arena)) (chunk (u20 .before)) (a .now-ms) (a .tick) (now (a .out-header)) (now (a .out-body))
     (is-shaped (u10 .before)) (is-sound (c .before)) (c .if4 .taken)
 
--- src/slot.rt:381:5
 touch-requires : tie.Need-touch-requires
 touch-requires c κs =
     let u5 = c .before .before .before .before .before in
     let u10 = u5 .before .before .before .before .before in
     shape (u10 .before .before) .nine
 
--- src/slot.rt:382:5
 feed-sound-requires : tie.Need-feed-sound-requires
 feed-sound-requires c κs =
     let u5 = c .before .before .before .before .before in
@@ -166,31 +149,24 @@ feed-sound-requires c κs =
       (u10 .if4 .left, rw t (u10 .before .before .before .scan .ensures .held)),
     )
 
--- src/slot.rt:333:1
 same-length-3 : tie.Need-same-length-3
 same-length-3 c = search needs
 
--- src/slot.rt:333:1
 same-length-4 : tie.Need-same-length-4
 same-length-4 c = search needs
 
--- src/slot.rt:333:1
 same-length-5 : tie.Need-same-length-5
 same-length-5 c = search needs
 
--- src/slot.rt:333:1
 same-length-6 : tie.Need-same-length-6
 same-length-6 c = search needs
 
--- src/slot.rt:333:1
 same-length-7 : tie.Need-same-length-7
 same-length-7 c = search needs
 
--- src/slot.rt:333:1
 same-length-8 : tie.Need-same-length-8
 same-length-8 c = search needs
 
--- src/slot.rt:333:1
 returns-5 : tie.Need-returns-5
 returns-5 c =
     let u5 = c .before .before .before .before .before in

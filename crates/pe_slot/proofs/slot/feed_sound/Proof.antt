@@ -15,26 +15,21 @@ chunk s =
 reaching : (s : tie.Start) → Reaching (now (s .args .words)) (now (s .args .index)) (now (s .args .header)) (now (s .args .arena)) (chunk s) (s .args .held) (now (s .args .out-header)) (now (s .args .out-body))
 reaching s = record { ready = s .pre .0; named = (let f = s .fits in let g = s .good in omega arith); short = s .pre .1 .0; holding = s .pre .1 .1 }
 
--- src/slot.rt:310:27
 take-header-requires : tie.Need-take-header-requires
 take-header-requires c κs =
     let u5 = c .before .before .before .before .before in
     let u10 = u5 .before .before .before .before .before in
     let r = u10 .pre .0 in (r .nine, r .head)
 
--- src/slot.rt:310:22
 enum-known-e : tie.Need-enum-known-e
 enum-known-e c = search needs
 
--- src/slot.rt:311:9
 same-length : tie.Need-same-length
 same-length c = search needs
 
--- src/slot.rt:311:9
 same-length-2 : tie.Need-same-length-2
 same-length-2 c = search needs
 
--- src/slot.rt:311:9
 returns : tie.Need-returns
 returns c =
     let u5 = c .before .before .before .before .before in
@@ -45,7 +40,6 @@ returns c =
 enum-told : tie.Need-enum-told
 enum-told c = search needs
 
--- src/slot.rt:313:9
 take-count-requires : tie.Need-take-count-requires
 take-count-requires c κs =
     let u5 = c .before .before .before .before .before in
@@ -53,15 +47,12 @@ take-count-requires c κs =
     let u15 = u10 .before .before .before .before .before in
     ready-header (reaching (u15 .before .before .before)) (u5 .before .before .take-header .ensures) .nine
 
--- src/slot.rt:314:9
 same-length-3 : tie.Need-same-length-3
 same-length-3 c = search needs
 
--- src/slot.rt:314:9
 same-length-4 : tie.Need-same-length-4
 same-length-4 c = search needs
 
--- src/slot.rt:314:9
 returns-2 : tie.Need-returns-2
 returns-2 c =
     let u5 = c .before .before .before .before .before in
@@ -70,7 +61,6 @@ returns-2 c =
     let u20 = u15 .before .before .before .before .before in
     count-no (reaching (u20 .before .before)) (u10 .before .take-header .ensures) (c .before .before .before .before .before .enum-told .given .1) (c .before .before .before .take-count .ensures) (not-true _ (c .if1 .taken))
 
--- src/slot.rt:316:27
 add-piece-requires : tie.Need-add-piece-requires
 add-piece-requires c κs =
     let u5 = c .before .before .before .before .before in
@@ -80,27 +70,21 @@ add-piece-requires c κs =
     let u25 = u20 .before .before .before .before .before in
     let r = ready-count (reaching (u25)) (u10 .before .before .before .before .take-header .ensures) (u5 .before .before .before .enum-told .given .1) (c .before .before .before .before .before .before .take-count .ensures) in (r .nine, r .bytes, r .body, u25 .pre .1 .0)
 
--- src/slot.rt:316:22
 enum-known-e-2 : tie.Need-enum-known-e-2
 enum-known-e-2 c = search needs
 
--- src/slot.rt:317:9
 same-length-5 : tie.Need-same-length-5
 same-length-5 c = search needs
 
--- src/slot.rt:317:9
 same-length-6 : tie.Need-same-length-6
 same-length-6 c = search needs
 
--- src/slot.rt:317:9
 same-length-7 : tie.Need-same-length-7
 same-length-7 c = search needs
 
--- src/slot.rt:317:9
 same-length-8 : tie.Need-same-length-8
 same-length-8 c = search needs
 
--- src/slot.rt:317:9
 returns-3 : tie.Need-returns-3
 returns-3 c =
     let u5 = c .before .before .before .before .before in
@@ -115,7 +99,6 @@ returns-3 c =
 enum-told-2 : tie.Need-enum-told-2
 enum-told-2 c = search needs
 
--- src/slot.rt:319:5
 finish-requires : tie.Need-finish-requires
 finish-requires c κs =
     let u5 = c .before .before .before .before .before in
@@ -128,31 +111,24 @@ finish-requires c κs =
     let u40 = u35 .before .before .before .before .before in
     ready-piece (reaching (u40)) (u25 .before .before .before .before .take-header .ensures) (u20 .before .before .before .enum-told .given .1) (u20 .before .take-count .ensures) (not-false _ (u15 .before .before .before .if1 .left)) (u10 .before .before .before .before .add-piece .ensures) (c .before .before .before .before .before .before .enum-told2 .given .1)
 
--- src/slot.rt:293:1
 same-length-9 : tie.Need-same-length-9
 same-length-9 c = search needs
 
--- src/slot.rt:293:1
 same-length-10 : tie.Need-same-length-10
 same-length-10 c = search needs
 
--- src/slot.rt:293:1
 same-length-11 : tie.Need-same-length-11
 same-length-11 c = search needs
 
--- src/slot.rt:293:1
 same-length-12 : tie.Need-same-length-12
 same-length-12 c = search needs
 
--- src/slot.rt:293:1
 same-length-13 : tie.Need-same-length-13
 same-length-13 c = search needs
 
--- src/slot.rt:293:1
 same-length-14 : tie.Need-same-length-14
 same-length-14 c = search needs
 
--- src/slot.rt:293:1
 returns-4 : tie.Need-returns-4
 returns-4 c =
     let u5 = c .before .before .before .before .before in

@@ -9,22 +9,18 @@ use borrow.Author.Needs.{needs}
 use Rattle.pe_slot.proofs.slot.finish.Statement.{statement}
 use Rattle.pe_slot.proofs.slot.finish.Tie as tie
 
--- src/slot.rt:270:8
 slice-read-if1 : tie.Need-slice-read-if1
 slice-read-if1 c = search needs
 
--- src/slot.rt:271:9
 returns : tie.Need-returns
 returns c =
     let u5 = c .before .before .before .before .before in
     let a = u5 .before .before .before .args in
     finish-headless (now (a .words)) (now (a .index)) (now (a .header)) (now (a .arena)) (now (a .out-header)) (now (a .out-body)) (c .if1 .taken)
 
--- src/slot.rt:273:17
 slice-read-count : tie.Need-slice-read-count
 slice-read-count c = search needs
 
--- src/slot.rt:275:9
 returns-2 : tie.Need-returns-2
 returns-2 c =
     let u5 = c .before .before .before .before .before in
@@ -32,11 +28,9 @@ returns-2 c =
     let a = u10 .args in
     finish-countless (now (a .words)) (now (a .index)) (now (a .header)) (now (a .arena)) (now (a .out-header)) (now (a .out-body)) (c .before .before .if1 .left) (c .if2 .taken)
 
--- src/slot.rt:277:15
 slice-read-len : tie.Need-slice-read-len
 slice-read-len c = search needs
 
--- src/slot.rt:280:9
 returns-3 : tie.Need-returns-3
 returns-3 c =
     let u5 = c .before .before .before .before .before in
@@ -46,11 +40,9 @@ returns-3 c =
     finish-missing (now (a .words)) (now (a .index)) (now (a .header)) (now (a .arena)) (now (a .out-header)) (now (a .out-body))
     (c .before .before .before .before .if1 .left) (c .before .before .if2 .left) (join-short (t .«num_chunks») (now (a .index)) (now (a .arena)) (now (a .out-body)) (t .«index_len») (u10 .before .before .pre .held) (c .if3 .taken)) refl
 
--- src/slot.rt:282:15
 slice-read-end : tie.Need-slice-read-end
 slice-read-end c = search needs
 
--- src/slot.rt:283:34
 join-requires : tie.Need-join-requires
 join-requires c κs =
     let u5 = c .before .before .before .before .before in
@@ -59,19 +51,15 @@ join-requires c κs =
     let k = length-take-le (slotOf (now (s .args .words)) .«index_len») (now (s .args .index)) (s .pre .held) in
     (s .pre .held, record { few = (let p = s .pre .records in let q = s .pre .held in omega arith); ends = s .pre .ends; bytes = s .pre .body; room = (let p = s .pre .body in let q = s .pre .body-room in omega arith) })
 
--- src/slot.rt:283:22
 enum-known-body-len : tie.Need-enum-known-body-len
 enum-known-body-len c = search needs
 
--- src/slot.rt:284:9
 enum-told : tie.Need-enum-told
 enum-told c = search needs
 
--- src/slot.rt:284:9
 same-length : tie.Need-same-length
 same-length c = search needs
 
--- src/slot.rt:284:9
 returns-4 : tie.Need-returns-4
 returns-4 c =
     let u5 = c .before .before .before .before .before in
@@ -81,11 +69,9 @@ returns-4 c =
     finish-missing (now (a .words)) (now (a .index)) (now (a .header)) (now (a .arena)) (now (a .out-header)) (now (a .out-body))
     (u10 .before .if1 .left) (u5 .before .before .before .before .if2 .left) (c .before .before .before .before .join .ensures) (c .enum-told .given .1)
 
--- src/slot.rt:286:22
 slice-read-header-len : tie.Need-slice-read-header-len
 slice-read-header-len c = search needs
 
--- src/slot.rt:287:39
 slice-aggregate-copy-in : tie.Need-slice-aggregate-copy-in
 slice-aggregate-copy-in c =
     let u5 = c .before .before .before .before .before in
@@ -94,11 +80,9 @@ slice-aggregate-copy-in c =
     let u20 = u15 .before .before .before .before .before in
     sym (length-take-le _ _ (u20 .before .before .before .pre .head))
 
--- src/slot.rt:287:5
 copy-in-requires : tie.Need-copy-in-requires
 copy-in-requires c κs = search needs
 
--- src/slot.rt:288:5
 clear-requires : tie.Need-clear-requires
 clear-requires c κs =
     let u5 = c .before .before .before .before .before in
@@ -108,19 +92,15 @@ clear-requires c κs =
     let u25 = u20 .before .before .before .before .before in
     u25 .before .before .pre .nine
 
--- src/slot.rt:259:1
 same-length-2 : tie.Need-same-length-2
 same-length-2 c = search needs
 
--- src/slot.rt:259:1
 same-length-3 : tie.Need-same-length-3
 same-length-3 c = search needs
 
--- src/slot.rt:259:1
 same-length-4 : tie.Need-same-length-4
 same-length-4 c = search needs
 
--- src/slot.rt:259:1
 returns-5 : tie.Need-returns-5
 returns-5 c =
     let u5 = c .before .before .before .before .before in

@@ -3,23 +3,18 @@ use Rattle.pe_slot.proofs.slot.is_bounded.Statement.{statement}
 use Rattle.pe_slot.proofs.slot.is_bounded.Tie as tie
 use borrow.Author.Tests.{le-leb, lt-leb}
 
--- src/slot.rt:121:9
 returns : tie.Need-returns
 returns c = rw (lt-leb _ _ (c .if1 .taken))
 
--- src/slot.rt:124:9
 returns-2 : tie.Need-returns-2
 returns-2 c = rw (le-leb _ _ (c .before .if1 .left), lt-leb _ _ (c .if2 .taken))
 
--- src/slot.rt:127:9
 returns-3 : tie.Need-returns-3
 returns-3 c = rw (le-leb _ _ (c .before .before .if1 .left), le-leb _ _ (c .before .if2 .left), lt-leb _ _ (c .if3 .taken))
 
--- src/slot.rt:129:5
 is-empty-if-free-requires : tie.Need-is-empty-if-free-requires
 is-empty-if-free-requires c κs = search needs
 
--- src/slot.rt:109:1
 returns-4 : tie.Need-returns-4
 returns-4 c = rw (le-leb _ _ (c .before .before .before .if1 .left), le-leb _ _ (c .before .before .if2 .left), le-leb _ _ (c .before .if3 .left), c .is-empty-if-free .ensures)
 

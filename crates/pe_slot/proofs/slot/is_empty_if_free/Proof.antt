@@ -2,15 +2,12 @@ use Rattle.pe_slot.proofs.slot.is_empty_if_free.Statement.{statement}
 use Rattle.pe_slot.proofs.slot.is_empty_if_free.Tie as tie
 use borrow.Author.Tests.{eq-eqb, ne-eqb}
 
--- src/slot.rt:100:9
 returns : tie.Need-returns
 returns c = rw (ne-eqb _ _ (c .if1 .taken))
 
--- src/slot.rt:103:9
 returns-2 : tie.Need-returns-2
 returns-2 c = rw (eq-eqb _ _ (c .before .if1 .left), ne-eqb _ _ (c .if2 .taken))
 
--- src/slot.rt:96:1
 returns-3 : tie.Need-returns-3
 returns-3 c = rw (eq-eqb _ _ (c .before .if1 .left), eq-eqb _ _ (c .if2 .left))
 

@@ -13,39 +13,30 @@ Inv-loop a b i₀ i = (i ≤ length a) × (eqList a b ≡ eqList (drop i a) (dro
 abbrev μ-loop : tie.MeasureT-loop
 μ-loop a b i₀ i = length a - i
 
--- src/slot.rt:137:9
 returns : tie.Need-returns Inv-loop μ-loop
 returns c = sym (eq-lengths _ _ (c .if1 .taken))
 
--- src/slot.rt:140:5
 loop-holds : tie.Need-loop-holds Inv-loop μ-loop
 loop-holds c = (omega arith, refl)
 
--- src/slot.rt:141:12
 shared-slice-read-if2 : tie.Need-shared-slice-read-if2 Inv-loop μ-loop
 shared-slice-read-if2 c = omega arith
 
--- src/slot.rt:141:20
 shared-slice-read-if2-2 : tie.Need-shared-slice-read-if2-2 Inv-loop μ-loop
 shared-slice-read-if2-2 c = omega arith
 
--- src/slot.rt:142:13
 returns-2 : tie.Need-returns-2 Inv-loop μ-loop
 returns-2 c = let l = c .before .before .before .before in let a = l .before .before .args in sym (l .loop .inv .1 ∙ eq-stop (a .a .now) (a .b .now) (l .loop .i) (omega arith) (omega arith) (c .if2 .taken))
 
--- src/slot.rt:144:9
 add-i : tie.Need-add-i Inv-loop μ-loop
 add-i c = omega arith
 
--- src/slot.rt:140:5
 loop-less : tie.Need-loop-less Inv-loop μ-loop
 loop-less c = omega arith
 
--- src/slot.rt:140:5
 loop-again : tie.Need-loop-again Inv-loop μ-loop
 loop-again c = let l = c .before .before .before .before in let a = l .before .before .args in (omega arith, l .loop .inv .1 ∙ eq-go (a .a .now) (a .b .now) (l .loop .i) (omega arith) (omega arith) (c .if2 .left))
 
--- src/slot.rt:133:1
 returns-3 : tie.Need-returns-3 Inv-loop μ-loop
 returns-3 c = let l = c .before in let a = l .before .before .args in sym (l .loop .inv .1 ∙ eq-end (a .a .now) (a .b .now) (l .loop .i) (omega arith) (omega arith))
 

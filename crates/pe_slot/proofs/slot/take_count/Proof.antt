@@ -4,33 +4,26 @@ use borrow.Author.Needs.{needs}
 use Rattle.pe_slot.proofs.slot.take_count.Statement.{statement}
 use Rattle.pe_slot.proofs.slot.take_count.Tie as tie
 
--- src/slot.rt:213:9
 returns : tie.Need-returns
 unfolding takeCount
 returns c = rw (eq-eqb _ _ (c .if1 .taken))
 
--- src/slot.rt:215:8
 slice-read-if2 : tie.Need-slice-read-if2
 slice-read-if2 c = search needs
 
--- src/slot.rt:216:9
 slice-write-words : tie.Need-slice-write-words
 slice-write-words c = search needs
 
--- src/slot.rt:217:9
 same-length : tie.Need-same-length
 same-length c = search needs
 
--- src/slot.rt:217:9
 returns-2 : tie.Need-returns-2
 unfolding takeCount
 returns-2 c = rw (ne-eqb _ _ (c .before .before .if1 .left), eq-eqb _ _ (c .if2 .taken))
 
--- src/slot.rt:219:5
 slice-read-result : tie.Need-slice-read-result
 slice-read-result c = search needs
 
--- src/slot.rt:208:1
 returns-3 : tie.Need-returns-3
 unfolding takeCount
 returns-3 c = rw (ne-eqb _ _ (c .before .before .before .if1 .left), ne-eqb _ _ (c .before .if2 .left))

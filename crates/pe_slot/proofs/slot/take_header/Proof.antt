@@ -10,41 +10,32 @@ use borrow.Author.Needs.{needs}
 use Rattle.pe_slot.proofs.slot.take_header.Statement.{statement}
 use Rattle.pe_slot.proofs.slot.take_header.Tie as tie
 
--- src/slot.rt:189:9
 returns : tie.Need-returns
 unfolding takeHeader
 returns c = rw (ne-eqb _ _ (c .if1 .taken))
 
--- src/slot.rt:192:9
 returns-2 : tie.Need-returns-2
 unfolding takeHeader
 returns-2 c = rw (eq-eqb _ _ (c .before .if1 .left), lt-leb _ _ (c .if2 .taken))
 
--- src/slot.rt:194:8
 slice-read-if3 : tie.Need-slice-read-if3
 slice-read-if3 c = search needs
 
--- src/slot.rt:195:9
 copy-in-requires : tie.Need-copy-in-requires
 copy-in-requires c κs = search needs
 
--- src/slot.rt:196:9
 slice-write-words : tie.Need-slice-write-words
 slice-write-words c = search needs
 
--- src/slot.rt:197:9
 slice-write-words-2 : tie.Need-slice-write-words-2
 slice-write-words-2 c = simp length-set (omega arith)
 
--- src/slot.rt:198:9
 same-length : tie.Need-same-length
 same-length c = search needs
 
--- src/slot.rt:198:9
 same-length-2 : tie.Need-same-length-2
 same-length-2 c = search needs
 
--- src/slot.rt:198:9
 returns-3 : tie.Need-returns-3
 unfolding takeHeader
 returns-3 c =
@@ -53,42 +44,34 @@ returns-3 c =
     let a = u10 .before .args in
     rw (eq-eqb _ _ (u5 .before .before .if1 .left), le-leb _ _ (c .before .before .before .before .before .before .if2 .left), eq-eqb _ _ (c .before .before .before .before .if3 .taken), c .before .before .copy-in .ensures ∙ fit-front (now (a .header)) (now (a .chunk-header)) (c .before .before .before .before .before .before .if2 .left))
 
--- src/slot.rt:200:15
 slice-read-len : tie.Need-slice-read-len
 slice-read-len c = search needs
 
--- src/slot.rt:201:13
 slice-reshare-prefix-same : tie.Need-slice-reshare-prefix-same
 slice-reshare-prefix-same c =
     let u5 = c .before .before .before .before .before in
     u5 .before .before .before .pre .1
 
--- src/slot.rt:201:13
 slice-aggregate-same : tie.Need-slice-aggregate-same
 slice-aggregate-same c =
     let u5 = c .before .before .before .before .before in
     sym (length-take-le _ _ (u5 .before .before .before .before .pre .1))
 
--- src/slot.rt:201:8
 same-requires : tie.Need-same-requires
 same-requires c κs = search needs
 
--- src/slot.rt:202:9
 same-length-3 : tie.Need-same-length-3
 same-length-3 c = search needs
 
--- src/slot.rt:202:9
 returns-4 : tie.Need-returns-4
 unfolding takeHeader
 returns-4 c =
     let u5 = c .before .before .before .before .before in
     rw (eq-eqb _ _ (u5 .before .before .if1 .left), le-leb _ _ (c .before .before .before .before .before .before .if2 .left), ne-eqb _ _ (c .before .before .before .before .if3 .left), sym (c .before .same .ensures) ∙ c .if4 .taken)
 
--- src/slot.rt:184:1
 same-length-4 : tie.Need-same-length-4
 same-length-4 c = search needs
 
--- src/slot.rt:184:1
 returns-5 : tie.Need-returns-5
 unfolding takeHeader
 returns-5 c =

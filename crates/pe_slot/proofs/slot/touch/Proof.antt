@@ -6,39 +6,30 @@ use borrow.Author.Needs.{needs}
 use Rattle.pe_slot.proofs.slot.touch.Statement.{statement}
 use Rattle.pe_slot.proofs.slot.touch.Tie as tie
 
--- src/slot.rt:175:5
 slice-write-words : tie.Need-slice-write-words
 slice-write-words c = search needs
 
--- src/slot.rt:176:5
 slice-write-words-2 : tie.Need-slice-write-words-2
 slice-write-words-2 c = search needs
 
--- src/slot.rt:177:5
 slice-write-words-3 : tie.Need-slice-write-words-3
 slice-write-words-3 c = search needs
 
--- src/slot.rt:178:8
 slice-read-if1 : tie.Need-slice-read-if1
 slice-read-if1 c = search needs
 
--- src/slot.rt:179:9
 slice-write-words-4 : tie.Need-slice-write-words-4
 slice-write-words-4 c = simp length-set (omega arith)
 
--- src/slot.rt:171:1
 same-length : tie.Need-same-length
 same-length c = search needs
 
--- src/slot.rt:171:1
 returns : tie.Need-returns
 returns c = let a = c .before .before .args in touch-free (a .request-id) (a .now-ms) (a .tick) (now (a .words)) (c .before .before .pre) (c .if1 .taken)
 
--- src/slot.rt:171:1
 same-length-2 : tie.Need-same-length-2
 same-length-2 c = search needs
 
--- src/slot.rt:171:1
 returns-2 : tie.Need-returns-2
 returns-2 c = let a = c .before .before .args in touch-open (a .request-id) (a .now-ms) (a .tick) (now (a .words)) (c .before .before .pre) (c .if1 .left)
 

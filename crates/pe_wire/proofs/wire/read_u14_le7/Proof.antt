@@ -5,43 +5,33 @@ use Rattle.pe_wire.proofs.wire.read_u14_le7.Statement.{statement}
 use Rattle.pe_wire.proofs.wire.read_u14_le7.Tie as tie
 use Rattle.pe_wire.proofs.WireLaws.{read-short, read-low, read-high, read-value}
 
--- src/wire.rt:26:9
 returns : tie.Need-returns
 returns c = sym (read-short _ (c .if1 .taken))
 
--- src/wire.rt:28:15
 shared-slice-read-low : tie.Need-shared-slice-read-low
 shared-slice-read-low c = search needs
 
--- src/wire.rt:30:9
 returns-2 : tie.Need-returns-2
 returns-2 c = sym (read-low _ (omega arith) (c .if2 .taken))
 
--- src/wire.rt:32:16
 shared-slice-read-high : tie.Need-shared-slice-read-high
 shared-slice-read-high c = search needs
 
--- src/wire.rt:34:9
 returns-3 : tie.Need-returns-3
 returns-3 c = sym (read-high _ (omega arith) (omega arith) (c .if3 .taken))
 
--- src/wire.rt:36:16
 cast-t12 : tie.Need-cast-t12
 cast-t12 c = search needs
 
--- src/wire.rt:36:29
 cast-t13 : tie.Need-cast-t13
 cast-t13 c = search needs
 
--- src/wire.rt:36:29
 mul-t14 : tie.Need-mul-t14
 mul-t14 c = search needs
 
--- src/wire.rt:36:16
 add-t15 : tie.Need-add-t15
 add-t15 c = search needs
 
--- src/wire.rt:22:1
 returns-4 : tie.Need-returns-4
 returns-4 c = sym (read-value _ (omega arith) (omega arith) (c .if3 .left))
 

@@ -42,45 +42,36 @@ part-of c =
     let n : 13 + c .before .before .before .data-len .result - 13 ≡ capsLen (version c) = omega arith in
     c .all-seven-bit .ensures ∙ ap (λ (k : ℕ). isSevenBit (part 13 k (body c))) n
 
--- src/pe_caps.rt:50:28
 decode-requires : tie.Need-decode-requires
 decode-requires c κs = search needs
 
--- src/pe_caps.rt:51:31
 enum-known-h : tie.Need-enum-known-h
 enum-known-h c = search needs
 
--- src/pe_caps.rt:52:33
 enum-known-e : tie.Need-enum-known-e
 enum-known-e c = search needs
 
--- src/pe_caps.rt:52:39
 returns : tie.Need-returns
 unfolding readCaps
 returns c =
     let e = sym (c .before .before .before .decode .ensures) ∙ ap headerTold (c .before .e .given .1) in
     rw e
 
--- src/pe_caps.rt:54:13
 is-caps-requires : tie.Need-is-caps-requires
 is-caps-requires c κs = search needs
 
--- src/pe_caps.rt:55:13
 returns-2 : tie.Need-returns-2
 unfolding readCaps
 returns-2 c =
     let k = sym (c .before .is-caps .ensures) ∙ not-true _ (c .if1 .taken) in
     rw (header (c .before .before .before), k)
 
--- src/pe_caps.rt:57:35
 data-len-requires : tie.Need-data-len-requires
 data-len-requires c κs = search needs
 
--- src/pe_caps.rt:57:19
 add-end : tie.Need-add-end
 add-end c = omega (arith, c .data-len .ensures, len-most (c .before .before .before .before .h .given .0 .0 .version))
 
--- src/pe_caps.rt:59:13
 returns-3 : tie.Need-returns-3
 unfolding readCaps
 returns-3 c =
@@ -88,23 +79,18 @@ returns-3 c =
     let short : length (now (c .before .before .before .before .before .before .before .before .before .args .body)) < 13 + capsLen (c .before .before .before .before .before .h .given .0 .0 .version) = omega arith in
     rw (header (c .before .before .before .before .before), kind (c .before .before), lt-leb _ _ short)
 
--- src/pe_caps.rt:61:38
 sub-all-seven-bit : tie.Need-sub-all-seven-bit
 sub-all-seven-bit c = search needs
 
--- src/pe_caps.rt:61:38
 part-all-seven-bit-start : tie.Need-part-all-seven-bit-start
 part-all-seven-bit-start c = search needs
 
--- src/pe_caps.rt:61:38
 part-all-seven-bit-end : tie.Need-part-all-seven-bit-end
 part-all-seven-bit-end c = search needs
 
--- src/pe_caps.rt:61:13
 all-seven-bit-requires : tie.Need-all-seven-bit-requires
 all-seven-bit-requires c κs = search needs
 
--- src/pe_caps.rt:62:13
 returns-4 : tie.Need-returns-4
 unfolding readCaps
 returns-4 c =
@@ -112,11 +98,9 @@ returns-4 c =
     let e = sym (part-of a) ∙ not-true _ (c .if3 .taken) in
     rw (header (before-data a), kind (a .before .before .before .before), le-leb _ _ (long a), e)
 
--- src/pe_caps.rt:67:40
 shared-slice-read-t18 : tie.Need-shared-slice-read-t18
 shared-slice-read-t18 c = omega (arith, long (c .before .before .before .before), len-most (version (c .before .before .before .before)))
 
--- src/pe_caps.rt:65:13
 returns-5 : tie.Need-returns-5
 unfolding readCaps
 returns-5 c =
@@ -124,19 +108,15 @@ returns-5 c =
     let e = sym (part-of a) ∙ not-false _ (c .before .before .before .if3 .left) in
     rw (header (before-data a), kind (a .before .before .before .before), le-leb _ _ (long a), e, byte-below _ (getD (body a) 14 0) (c .before .if4 .taken), byte-below _ (getD (body a) 15 0) (c .before .if4 .taken))
 
--- src/pe_caps.rt:74:36
 shared-slice-read-t21 : tie.Need-shared-slice-read-t21
 shared-slice-read-t21 c = omega (arith, long (c .before .before .before .before), len-most (version (c .before .before .before .before)))
 
--- src/pe_caps.rt:75:23
 shared-slice-read-t23 : tie.Need-shared-slice-read-t23
 shared-slice-read-t23 c = omega (arith, long (c .before .before .before .before .before), len-since (version (c .before .before .before .before .before)) (c .before .before .if4 .left))
 
--- src/pe_caps.rt:76:23
 shared-slice-read-t25 : tie.Need-shared-slice-read-t25
 shared-slice-read-t25 c = omega (arith, long (c .before .before .before .before .before .before), len-since (version (c .before .before .before .before .before .before)) (c .before .before .before .if4 .left))
 
--- src/pe_caps.rt:47:5
 returns-6 : tie.Need-returns-6
 unfolding readCaps
 returns-6 c =

@@ -14,41 +14,33 @@ use Rattle.midici_core.proofs.HeaderLaws.{read-long}
 header : (c : tie.After-h) → readHeader (now (c .before .before .before .before .args .body)) ≡ granted (headerOf (c .h .given .0 .0))
 header c = sym (c .before .before .decode .ensures) ∙ ap headerTold (c .h .given .1)
 
--- src/pe_msg.rt:30:28
 decode-requires : tie.Need-decode-requires
 decode-requires c κs = search needs
 
--- src/pe_msg.rt:31:31
 enum-known-h : tie.Need-enum-known-h
 enum-known-h c = search needs
 
--- src/pe_msg.rt:32:33
 enum-known-e : tie.Need-enum-known-e
 enum-known-e c = search needs
 
--- src/pe_msg.rt:32:39
 returns : tie.Need-returns
 unfolding readMessage
 returns c =
     let e = sym (c .before .before .before .decode .ensures) ∙ ap headerTold (c .before .e .given .1) in
     rw e
 
--- src/pe_msg.rt:34:13
 is-pe-chunked-sub-id-requires : tie.Need-is-pe-chunked-sub-id-requires
 is-pe-chunked-sub-id-requires c κs = search needs
 
--- src/pe_msg.rt:35:13
 returns-2 : tie.Need-returns-2
 unfolding readMessage
 returns-2 c =
     let k = sym (c .before .is-pe-chunked-sub-id .ensures) ∙ not-true _ (c .if1 .taken) in
     rw (header (c .before .before .before), k)
 
--- src/pe_msg.rt:40:26
 sub-t11 : tie.Need-sub-t11
 sub-t11 c = omega (arith, read-long _ _ (header (c .before .before .before)))
 
--- src/pe_msg.rt:27:5
 returns-3 : tie.Need-returns-3
 unfolding readMessage
 returns-3 c =
