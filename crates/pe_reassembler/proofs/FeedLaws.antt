@@ -17,14 +17,16 @@ use Rattle.seven_bit.specs.Reply.{Reply, granted, refused}
 use Rattle.seven_bit.proofs.PartLaws.{length-part}
 use Rattle.seven_bit.proofs.ReplyLaws.{both, first-granted, and-told}
 use Rattle.midici_core.specs.Header.{readHeader}
-use Rattle.midici_core.specs.Message.{Message, readMessage}
+use Rattle.midici_core.specs.declared.pe_msg.MessageRead.{MessageRead}
+use Rattle.midici_core.specs.Message.{Message, readMessage, messageTold}
 use Rattle.midici_core.proofs.HeaderLaws.{read-long}
-use Rattle.pe_frame.specs.Chunk.{Chunk, Fields, readFields}
+use Rattle.pe_frame.specs.declared.frame.ChunkRead.{ChunkRead}
+use Rattle.pe_frame.specs.Chunk.{Chunk, Fields, readFields, chunkTold}
 use Rattle.pe_frame.proofs.RoundTrip.{read-told}
 use Rattle.pe_wire.proofs.RoundTrip.{read-small}
 use Rattle.pe_slot.specs.Slot.{Slot, Verdict, stays, closing, _otherwise_then_, storing, taking, held, bodyLen, headerFits, headerAgrees, newHeader, countAgrees, newCount, afterChunk, passed, judge}
 use Rattle.pe_slot.specs.Memory.{slotOf, isSound}
-use Rattle.pe_slot.specs.Feed.{Told, toldAnswer, After, after, placed, isShaped, feedSlot}
+use Rattle.pe_slot.specs.Feed.{Told, toldAnswer, After, after, placed, isShaped, reachedSlot, feedSlot}
 use Rattle.pe_reassembler.specs.declared.shape.Shape.{Shape}
 use Rattle.pe_reassembler.specs.Table.{hasNumbers, hasRooms, isBound, boundTo, peerAt, slotAt, roomAt, roomsLen, recordFor}
 use Rattle.pe_reassembler.specs.Feed.{Memory, memory, Fed, fed, nextTick, bind, hasAll, lifted, reach, wordsPart, roomPart}
@@ -160,10 +162,10 @@ module _ (words index header arena : List ℕ) (c : Chunk) (now-ms tick : ℕ) (
   unfolding feedSlot
   damaged n = rw (h, n)
 
-  undamaged : isSound (length header) (length arena) (length index) (slotOf words) index ≡ true → length (c .property) ≤ 16383
-      → isDamaged (feedSlot words index header arena c now-ms tick out-header out-body .answer) ≡ false
-  unfolding feedSlot placed
-  undamaged y l = rw (h, y, le-leb _ _ l) (judge-clear _ _ _ _ c)
+  pub fed-reached : isSound (length header) (length arena) (length index) (slotOf words) index ≡ true → length (c .property) ≤ 16383
+      → feedSlot words index header arena c now-ms tick out-header out-body ≡ reachedSlot words index header arena c now-ms tick out-header out-body
+  unfolding feedSlot
+  fed-reached y l = rw (h, y, le-leb _ _ l)
 
 shaped : (words index header arena out-header out-body : List ℕ) → length words ≡ 9 → length index ≤ 2048 → length header ≤ 4096 → length arena ≤ 65536
     → length header ≤ length out-header → length arena ≤ length out-body → isShaped words index header arena out-header out-body ≡ true
@@ -213,7 +215,7 @@ module _ (shape : Shape) (m : Memory) (peer : ℕ) (c : Chunk) (now-ms p s : ℕ
   arena-len : length arena ≡ shape .«tx_bytes»
   arena-len = length-part _ _ (m .arenas) arenas-in
 
-  is-shaped : isShaped words records header arena (m .out-header) (m .out-body) ≡ true
+  pub is-shaped : isShaped words records header arena (m .out-header) (m .out-body) ≡ true
   is-shaped =
       shaped words records header arena (m .out-header) (m .out-body) words-len (rw records-len (range .records)) (rw header-len (range .header))
       (rw arena-len (range .body)) (rw header-len (all .out-header)) (rw arena-len (all .out-body))
@@ -223,6 +225,13 @@ module _ (shape : Shape) (m : Memory) (peer : ℕ) (c : Chunk) (now-ms p s : ℕ
 
   abbrev slot-fed : After
   slot-fed = feedSlot words records header arena c now-ms tick (m .out-header) (m .out-body)
+
+  abbrev slot-reached : After
+  slot-reached = reachedSlot words records header arena c now-ms tick (m .out-header) (m .out-body)
+
+  undamaged : isDamaged (slot-reached .answer) ≡ false
+  unfolding placed
+  undamaged = judge-clear _ _ _ _ c
 
   abbrev in-place : After → Fed
   in-place a =
@@ -251,11 +260,8 @@ module _ (shape : Shape) (m : Memory) (peer : ℕ) (c : Chunk) (now-ms p s : ℕ
   unfolding reach lifted
   reached-sound y h =
       let r = record-long in
-      rw (
-        y,
-        undamaged words records header arena c now-ms tick (m .out-header) (m .out-body) is-shaped (same-sound ∙ y) h,
-        noted-splice (slot-fed .words) peer p s (m .numbers) tick (r .1) l,
-      )
+      ap (λ (a : After). noting tick peer p (in-place a)) (fed-reached words records header arena c now-ms tick (m .out-header) (m .out-body) is-shaped (same-sound ∙ y) h)
+      ∙ rw (y, undamaged, noted-splice (slot-reached .words) peer p s (m .numbers) tick (r .1) l)
 
   pub reached : length (c .property) ≤ 16383 → noting tick peer p (in-place slot-fed) ≡ reach shape m peer c now-ms p s
   reached h = go (both soundness)
@@ -318,6 +324,13 @@ record-for-in shape numbers peer p e f =
     let l = numbers-long shape numbers e in
     let b = record-for-below shape numbers peer p f in
     omega arith
+
+-- what the readers answered, taken apart
+pub chunk-as : {r q : ChunkRead} {o : Reply Fields} → chunkTold r ≡ o → r ≡ q → o ≡ chunkTold q
+chunk-as e f = sym e ∙ ap chunkTold f
+
+pub message-as : {r q : MessageRead} {o : Reply Message} → messageTold r ≡ o → r ≡ q → o ≡ messageTold q
+message-as e f = sym e ∙ ap messageTold f
 
 -- the numbers of a chunk that was read are small
 pub read-bounds : (data′ : List ℕ) (f : Fields) → readFields data′ ≡ granted f → (f .header-len ≤ 16383) × (f .property-at + f .property-len ≤ 32775)

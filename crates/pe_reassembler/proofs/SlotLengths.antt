@@ -7,15 +7,14 @@ use mathlib.Core.List.{List}
 use mathlib.Core.Path.{_≡_, refl, sym, _∙_}
 use native.Mathlib.Omega.{arith}
 use borrow.Author.Tests.{eq-eqb}
-use lib.Dec.{leb, eqb}
+use lib.Dec.{eqb}
 use lib.ListN.{length, length-set}
-use Rattle.seven_bit.specs.Reply.{Reply, refused}
 use Rattle.seven_bit.proofs.PartLaws.{length-part, length-splice}
 use Rattle.pe_frame.specs.Chunk.{Chunk}
 use Rattle.pe_slot.specs.declared.slot.TxSlot.{TxSlot}
 use Rattle.pe_slot.specs.Slot.{Verdict, judge}
 use Rattle.pe_slot.specs.Memory.{slotOf, wordsOf, packed, contents, isSound}
-use Rattle.pe_slot.specs.Feed.{Told, After, after, touched, grown, closed, placed, isShaped, feedSlot}
+use Rattle.pe_slot.specs.Feed.{After, touched, grown, closed, placed, reachedSlot}
 use Rattle.pe_slot.proofs.FeedLaws.{newIndex, newArena, length-kept}
 use Rattle.pe_slot.proofs.FeedTheorems.{Sound, sound-told, opened}
 use Rattle.pe_slot.proofs.JudgeLaws.{Fitting, judge-fitting}
@@ -84,53 +83,25 @@ module _ (t : TxSlot) (index header arena : List ℕ) (c : Chunk) (out-header ou
       closing true g e = λ (z : _). refl
       closing false g e = e
 
--- whatever the answer is: nothing was changed, or a sound slot was asked its own questions
+-- a chunk that reaches its slot
 module _ (words index header arena : List ℕ) (c : Chunk) (now-ms tick : ℕ) (out-header out-body : List ℕ) where
-  abbrev asked : After
-  asked =
-      placed (touched (slotOf words) (c .request-id) now-ms tick) index header arena c
-      (judge (length header) (length arena) (length index) (contents (slotOf words) index header arena) c) out-header out-body
+  abbrev verdict : Verdict
+  verdict = judge (length header) (length arena) (length index) (contents (slotOf words) index header arena) c
 
-  fed-either : (P : After → Type 0) → ((r : Reply Told) → P (after r words index header arena out-header out-body))
-      → (isSound (length header) (length arena) (length index) (slotOf words) index ≡ true → P asked)
-      → P (feedSlot words index header arena c now-ms tick out-header out-body)
-  unfolding feedSlot
-  fed-either P f g =
-      go (isShaped words index header arena out-header out-body) (isSound (length header) (length arena) (length index) (slotOf words) index) refl (leb (length (c .property)) 16383)
-    where
-      go : (shaped sound : Bool) → isSound (length header) (length arena) (length index) (slotOf words) index ≡ sound → (short : Bool)
-          → P
-          (cond shaped
-          (cond sound
-          (cond short asked (after (refused 1 0) words index header arena out-header out-body))
-          (after (refused 31 0) words index header arena out-header out-body))
-          (after (refused 30 0) words index header arena out-header out-body))
-      go false sound q short = f (refused 30 0)
-      go true false q short = f (refused 31 0)
-      go true true q false = f (refused 1 0)
-      go true true q true = g q
-
-  pub fed-lengths : length words ≡ 9 → SameLengths index header arena (feedSlot words index header arena c now-ms tick out-header out-body)
+  pub reached-lengths : isSound (length header) (length arena) (length index) (slotOf words) index ≡ true
+      → SameLengths index header arena (reachedSlot words index header arena c now-ms tick out-header out-body)
   unfolding contents
-  fed-lengths n = fed-either (SameLengths index header arena) (λ (r : Reply Told). record { nine = n; records = refl; header-bytes = refl; tx-bytes = refl }) go
-    where
-      go : isSound (length header) (length arena) (length index) (slotOf words) index ≡ true → SameLengths index header arena asked
-      go q =
-          let s = sound-told _ _ _ (slotOf words) index q in
-          placed-lengths (touched (slotOf words) (c .request-id) now-ms tick) index header arena c out-header out-body
-          (record { head = s .head; held = s .held; body = s .body; ends = s .ends })
+  reached-lengths q =
+      let s = sound-told _ _ _ (slotOf words) index q in
+      placed-lengths (touched (slotOf words) (c .request-id) now-ms tick) index header arena c out-header out-body
+      (record { head = s .head; held = s .held; body = s .body; ends = s .ends })
 
-  pub fed-blank : Blank (slotOf words) → Blank (slotOf (feedSlot words index header arena c now-ms tick out-header out-body .words))
-  fed-blank n =
-      fed-either (λ (a : After). Blank (slotOf (a .words))) (λ (r : Reply Told). n)
-      (λ (q : _). placed-blank (touched (slotOf words) (c .request-id) now-ms tick) index header arena c out-header out-body (opened (slotOf words .active))
-      (judge (length header) (length arena) (length index) (contents (slotOf words) index header arena) c))
+  pub reached-blank : Blank (slotOf (reachedSlot words index header arena c now-ms tick out-header out-body .words))
+  reached-blank =
+      placed-blank (touched (slotOf words) (c .request-id) now-ms tick) index header arena c out-header out-body (opened (slotOf words .active)) verdict
 
-  pub fed-headed : Headed (slotOf words) → Headed (slotOf (feedSlot words index header arena c now-ms tick out-header out-body .words))
-  fed-headed n =
-      fed-either (λ (a : After). Headed (slotOf (a .words))) (λ (r : Reply Told). n)
-      (λ (q : _). placed-headed (touched (slotOf words) (c .request-id) now-ms tick) index header arena c out-header out-body n
-      (judge (length header) (length arena) (length index) (contents (slotOf words) index header arena) c))
+  pub reached-headed : Headed (slotOf words) → Headed (slotOf (reachedSlot words index header arena c now-ms tick out-header out-body .words))
+  reached-headed n = placed-headed (touched (slotOf words) (c .request-id) now-ms tick) index header arena c out-header out-body n verdict
 
 -- the parts of slot s of record p
 module _ (shape : Shape) (m : Memory) (p s : ℕ) (h : hasRooms shape (m .numbers) (m .index) (m .headers) (m .arenas) ≡ true) (k : p < shape .«max_peers») (l : s < 4) where
@@ -152,11 +123,19 @@ module _ (shape : Shape) (m : Memory) (p s : ℕ) (h : hasRooms shape (m .number
   pub arena-length : length (roomPart (shape .«tx_bytes») (m .arenas) p s) ≡ shape .«tx_bytes»
   arena-length = room-length (shape .«tx_bytes») (m .arenas) (room .arenas-long)
 
+  -- question 31 of the shape's rooms is the question of the slot's own
+  pub sound-rooms : (t : TxSlot) (records : List ℕ)
+      → isSound (length (roomPart (shape .«header_bytes») (m .headers) p s)) (length (roomPart (shape .«tx_bytes») (m .arenas) p s))
+      (length (roomPart (shape .«fragment_records») (m .index) p s)) t records
+      ≡ isSound (shape .«header_bytes») (shape .«tx_bytes») (shape .«fragment_records») t records
+  sound-rooms t records = rw (header-length, arena-length, records-length)
+
   -- what a chunk left fits in its place
-  pub fed-sized : (c : Chunk) (now-ms tick : ℕ) (out-header out-body : List ℕ)
-      → Sized shape (feedSlot (wordsPart (m .numbers) p s) (roomPart (shape .«fragment_records») (m .index) p s) (roomPart (shape .«header_bytes») (m .headers) p s)
+  pub reached-sized : (c : Chunk) (now-ms tick : ℕ) (out-header out-body : List ℕ)
+      → isSound (shape .«header_bytes») (shape .«tx_bytes») (shape .«fragment_records») (slotOf (wordsPart (m .numbers) p s)) (roomPart (shape .«fragment_records») (m .index) p s) ≡ true
+      → Sized shape (reachedSlot (wordsPart (m .numbers) p s) (roomPart (shape .«fragment_records») (m .index) p s) (roomPart (shape .«header_bytes») (m .headers) p s)
       (roomPart (shape .«tx_bytes») (m .arenas) p s) c now-ms tick out-header out-body)
-  fed-sized c now-ms tick out-header out-body =
-      let f = fed-lengths (wordsPart (m .numbers) p s) (roomPart (shape .«fragment_records») (m .index) p s) (roomPart (shape .«header_bytes») (m .headers) p s)
-      (roomPart (shape .«tx_bytes») (m .arenas) p s) c now-ms tick out-header out-body words-length in
+  reached-sized c now-ms tick out-header out-body q =
+      let f = reached-lengths (wordsPart (m .numbers) p s) (roomPart (shape .«fragment_records») (m .index) p s) (roomPart (shape .«header_bytes») (m .headers) p s)
+      (roomPart (shape .«tx_bytes») (m .arenas) p s) c now-ms tick out-header out-body (sound-rooms (slotOf (wordsPart (m .numbers) p s)) (roomPart (shape .«fragment_records») (m .index) p s) ∙ q) in
       record { nine = f .nine; records = f .records ∙ records-length; header-bytes = f .header-bytes ∙ header-length; tx-bytes = f .tx-bytes ∙ arena-length }

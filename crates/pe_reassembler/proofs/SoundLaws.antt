@@ -6,7 +6,7 @@ use mathlib.Core.Bool.{Bool, true, false, cond, _&&_}
 use mathlib.Core.List.{List}
 use mathlib.Core.Logic.{_⊎_, inl, inr}
 use mathlib.Core.Option.{Option, none, some}
-use mathlib.Core.Path.{_≡_, refl, sym, _∙_}
+use mathlib.Core.Path.{_≡_, refl, _∙_, subst}
 use native.Mathlib.Omega.{arith}
 use borrow.Author.Tests.{le-leb, eqb-true, eqb-false}
 use lib.Dec.{leb, eqb}
@@ -15,10 +15,10 @@ use Rattle.seven_bit.specs.Reply.{Reply, granted, refused}
 use Rattle.seven_bit.proofs.ReplyLaws.{both, and-told}
 use Rattle.midici_core.specs.Message.{Message, readMessage}
 use Rattle.pe_frame.specs.Chunk.{Chunk, Fields, readFields, chunkOf}
-use Rattle.pe_frame.proofs.RoundTrip.{read-told}
+use Rattle.pe_frame.proofs.RoundTrip.{read-told, read-in-range}
 use Rattle.pe_wire.proofs.RoundTrip.{read-small}
 use Rattle.pe_slot.specs.Memory.{slotOf, wordsOf, endsAt, isSound}
-use Rattle.pe_slot.specs.Feed.{After, closed, feedSlot}
+use Rattle.pe_slot.specs.Feed.{After, closed, reachedSlot}
 use Rattle.pe_slot.proofs.FeedTheorems.{sound-again}
 use Rattle.pe_reassembler.specs.declared.shape.Shape.{Shape}
 use Rattle.pe_reassembler.specs.Calls.{numbered, newCall, closeAt, cancelIn, cancelAt, cancelCall, dropAt, dropCall}
@@ -28,7 +28,8 @@ use Rattle.pe_reassembler.specs.Table.{numbersLen, hasNumbers, hasRooms,
 use Rattle.pe_reassembler.proofs.Effects.{Sized, lifted-words, lifted-words-other, lifted-index, lifted-index-other}
 use Rattle.pe_reassembler.proofs.EffectsClose.{close-words, close-words-other, due-words, drop-words, drop-words-other}
 use Rattle.pe_reassembler.proofs.EffectsNew.{new-words}
-use Rattle.pe_reassembler.proofs.SlotLengths.{Blank, Headed, fed-blank, fed-headed, fed-sized, records-length, header-length, arena-length}
+use Rattle.pe_reassembler.proofs.FeedLaws.{is-shaped, fed-reached}
+use Rattle.pe_reassembler.proofs.SlotLengths.{Blank, Headed, reached-blank, reached-headed, reached-sized, sound-rooms}
 use Rattle.pe_reassembler.proofs.TableLaws.{numbers-long, record-of-below, record-for-below, slot-open-below, slot-for-below}
 
 -- a slot's words and records
@@ -154,13 +155,16 @@ module _ (shape : Shape) (numbers index : List ℕ) (a : SlotsSound shape number
       go (inr e) = rw e a
 
 -- a feed keeps it
-same-rooms : {H B R h b r : ℕ} (words records : List ℕ) → h ≡ H → b ≡ B → r ≡ R → isSound h b r (slotOf words) records ≡ isSound H B R (slotOf words) records
-same-rooms words records e f g = rw (e, f, g)
+rooms-of : (shape : Shape) (m : Memory) → hasAll shape m ≡ true → hasRooms shape (m .numbers) (m .index) (m .headers) (m .arenas) ≡ true
+unfolding hasAll
+rooms-of shape m e = and-told _ _ (and-told _ _ e .0) .0
 
-module _ (shape : Shape) (m : Memory) (peer now-ms : ℕ) (h : hasRooms shape (m .numbers) (m .index) (m .headers) (m .arenas) ≡ true)
-    (a : SlotsSound shape (m .numbers) (m .index)) where
+module _ (shape : Shape) (m : Memory) (peer now-ms : ℕ) (e : hasAll shape m ≡ true) (a : SlotsSound shape (m .numbers) (m .index)) where
+  h : hasRooms shape (m .numbers) (m .index) (m .headers) (m .arenas) ≡ true
+  h = rooms-of shape m e
+
   -- the slot that a chunk reaches
-  module _ (c : Chunk) (named : c .chunk-num < 65536) (p s : ℕ) (k : p < shape .«max_peers») (l : s < 4) where
+  module _ (c : Chunk) (short : length (c .property) ≤ 16383) (named : c .chunk-num < 65536) (p s : ℕ) (k : p < shape .«max_peers») (l : s < 4) where
     abbrev words : List ℕ
     words = wordsPart (m .numbers) p s
 
@@ -173,46 +177,54 @@ module _ (shape : Shape) (m : Memory) (peer now-ms : ℕ) (h : hasRooms shape (m
     abbrev arena : List ℕ
     arena = roomPart (shape .«tx_bytes») (m .arenas) p s
 
-    abbrev slot-fed : After
-    slot-fed = feedSlot words records header arena c now-ms (nextTick (getD (m .numbers) 0 0)) (m .out-header) (m .out-body)
+    abbrev tick : ℕ
+    tick = nextTick (getD (m .numbers) 0 0)
 
-    sized : Sized shape slot-fed
-    sized = fed-sized shape m p s h k l c now-ms (nextTick (getD (m .numbers) 0 0)) (m .out-header) (m .out-body)
+    abbrev slot-reached : After
+    slot-reached = reachedSlot words records header arena c now-ms tick (m .out-header) (m .out-body)
 
-    sound-fed : SlotSound (shape .«header_bytes») (shape .«tx_bytes») (shape .«fragment_records») (slot-fed .words) (slot-fed .index)
-    sound-fed =
-        let before = a .each p s k l in
+    sized : Sized shape slot-reached
+    sized = reached-sized shape m p s h k l c now-ms tick (m .out-header) (m .out-body) (a .each p s k l .sound)
+
+    sound-before : isSound (length header) (length arena) (length records) (slotOf words) records ≡ true
+    sound-before = sound-rooms shape m p s h k l (slotOf words) records ∙ a .each p s k l .sound
+
+    sound-after : isSound (length (slot-reached .header)) (length (slot-reached .arena)) (length (slot-reached .index)) (slotOf (slot-reached .words)) (slot-reached .index) ≡ true
+    sound-after =
+        subst (λ (x : After). isSound (length (x .header)) (length (x .arena)) (length (x .index)) (slotOf (x .words)) (x .index) ≡ true)
+        (fed-reached words records header arena c now-ms tick (m .out-header) (m .out-body) (is-shaped shape m peer c now-ms p s e k l) sound-before short)
+        (sound-again words records header arena c now-ms tick (m .out-header) (m .out-body) named sound-before)
+
+    sound-reached : SlotSound (shape .«header_bytes») (shape .«tx_bytes») (shape .«fragment_records») (slot-reached .words) (slot-reached .index)
+    sound-reached =
         record {
-          sound =
-              sym (same-rooms (slot-fed .words) (slot-fed .index) (sized .header-bytes) (sized .tx-bytes) (sized .records))
-              ∙ sound-again words records header arena c now-ms (nextTick (getD (m .numbers) 0 0)) (m .out-header) (m .out-body) named
-              (same-rooms words records (header-length shape m p s h k l) (arena-length shape m p s h k l) (records-length shape m p s h k l) ∙ before .sound);
-          blank = fed-blank words records header arena c now-ms (nextTick (getD (m .numbers) 0 0)) (m .out-header) (m .out-body) (before .blank);
-          headed = fed-headed words records header arena c now-ms (nextTick (getD (m .numbers) 0 0)) (m .out-header) (m .out-body) (before .headed);
+          sound = rw (sized .header-bytes, sized .tx-bytes, sized .records) at sound-after;
+          blank = reached-blank words records header arena c now-ms tick (m .out-header) (m .out-body);
+          headed = reached-headed words records header arena c now-ms tick (m .out-header) (m .out-body) (a .each p s k l .headed);
         }
 
-    sound-lifted : SlotsSound shape (lifted shape m peer p s slot-fed .memory .numbers) (lifted shape m peer p s slot-fed .memory .index)
+    sound-lifted : SlotsSound shape (lifted shape m peer p s slot-reached .memory .numbers) (lifted shape m peer p s slot-reached .memory .index)
     sound-lifted = record { each = λ (q t : ℕ) (b : q < shape .«max_peers») (g : t < 4). go q t b g (same-or p s q t) }
       where
         go : (q t : ℕ) → q < shape .«max_peers» → t < 4 → ((q ≡ p) × (t ≡ s)) ⊎ (q ≡ p → t ≡ s → ⊥)
-            → SlotSound (shape .«header_bytes») (shape .«tx_bytes») (shape .«fragment_records») (wordsPart (lifted shape m peer p s slot-fed .memory .numbers) q t)
-            (roomPart (shape .«fragment_records») (lifted shape m peer p s slot-fed .memory .index) q t)
-        go q t b g (inl e) = rw (e .0, e .1, lifted-words shape m peer p s slot-fed h sized k l, lifted-index shape m peer p s slot-fed h sized k l) sound-fed
+            → SlotSound (shape .«header_bytes») (shape .«tx_bytes») (shape .«fragment_records») (wordsPart (lifted shape m peer p s slot-reached .memory .numbers) q t)
+            (roomPart (shape .«fragment_records») (lifted shape m peer p s slot-reached .memory .index) q t)
+        go q t b g (inl e) = rw (e .0, e .1, lifted-words shape m peer p s slot-reached h sized k l, lifted-index shape m peer p s slot-reached h sized k l) sound-reached
         go q t b g (inr d) =
-            rw (lifted-words-other shape m peer p s slot-fed h sized k l q t b g d, lifted-index-other shape m peer p s slot-fed h sized k l q t b g d) (a .each q t b g)
+            rw (lifted-words-other shape m peer p s slot-reached h sized k l q t b g d, lifted-index-other shape m peer p s slot-reached h sized k l q t b g d) (a .each q t b g)
 
     sound-reach : SlotsSound shape (reach shape m peer c now-ms p s .memory .numbers) (reach shape m peer c now-ms p s .memory .index)
     unfolding reach
     sound-reach = rw (a .each p s k l .sound) sound-lifted
 
-  sound-table : (c : Chunk) → c .chunk-num < 65536 → SlotsSound shape (atTable shape m peer c now-ms .memory .numbers) (atTable shape m peer c now-ms .memory .index)
+  sound-table : (c : Chunk) → length (c .property) ≤ 16383 → c .chunk-num < 65536 → SlotsSound shape (atTable shape m peer c now-ms .memory .numbers) (atTable shape m peer c now-ms .memory .index)
   unfolding atTable
-  sound-table c named = go (recordFor shape (m .numbers) peer) refl
+  sound-table c short named = go (recordFor shape (m .numbers) peer) refl
     where
       in-record : (p : ℕ) → p < shape .«max_peers» → (o : Option ℕ) → slotFor (m .numbers) p (c .request-id) ≡ o
           → SlotsSound shape (inSlot o shape m peer c now-ms p .memory .numbers) (inSlot o shape m peer c now-ms p .memory .index)
       in-record p k none g = a
-      in-record p k (some s) g = sound-reach c named p s k (slot-for-below (m .numbers) p (c .request-id) s g)
+      in-record p k (some s) g = sound-reach c short named p s k (slot-for-below (m .numbers) p (c .request-id) s g)
 
       go : (o : Option ℕ) → recordFor shape (m .numbers) peer ≡ o
           → SlotsSound shape (inRecord o shape m peer c now-ms .memory .numbers) (inRecord o shape m peer c now-ms .memory .index)
@@ -225,12 +237,9 @@ module _ (shape : Shape) (m : Memory) (peer now-ms : ℕ) (h : hasRooms shape (m
   sound-chunk data′ = go (readFields data′) refl
     where
       go : (r : Reply Fields) → readFields data′ ≡ r → SlotsSound shape (chunkRead r shape m peer data′ now-ms .memory .numbers) (chunkRead r shape m peer data′ now-ms .memory .index)
-      go (granted f) e = sound-table (chunkOf data′ f) (let n = read-small _ _ (read-told data′ f e .number) in omega arith)
-      go (refused number value) e = a
-
-rooms-of : (shape : Shape) (m : Memory) → hasAll shape m ≡ true → hasRooms shape (m .numbers) (m .index) (m .headers) (m .arenas) ≡ true
-unfolding hasAll
-rooms-of shape m e = and-told _ _ (and-told _ _ e .0) .0
+      go (granted f) q =
+          sound-table (chunkOf data′ f) (read-in-range data′ f q .property-len) (let n = read-small _ _ (read-told data′ f q .number) in omega arith)
+      go (refused number value) q = a
 
 module _ (shape : Shape) (m : Memory) (a : SlotsSound shape (m .numbers) (m .index)) where
   pub sound-feed : (peer : ℕ) (data′ : List ℕ) (now-ms : ℕ)
@@ -240,7 +249,7 @@ module _ (shape : Shape) (m : Memory) (a : SlotsSound shape (m .numbers) (m .ind
     where
       go : (hasAll shape m ≡ true) ⊎ (hasAll shape m ≡ false) → (isMuid peer ≡ true) ⊎ (isMuid peer ≡ false)
           → SlotsSound shape (feedCall shape m peer data′ now-ms .memory .numbers) (feedCall shape m peer data′ now-ms .memory .index)
-      go (inl e) (inl f) = rw (e, f) (sound-chunk shape m peer now-ms (rooms-of shape m e) a data′)
+      go (inl e) (inl f) = rw (e, f) (sound-chunk shape m peer now-ms e a data′)
       go (inl e) (inr f) = rw (e, f) a
       go (inr e) f = rw e a
 
@@ -249,7 +258,7 @@ module _ (shape : Shape) (m : Memory) (a : SlotsSound shape (m .numbers) (m .ind
   sound-message body now-ms = go (both (hasAll shape m))
     where
       read : hasAll shape m ≡ true → (r : Reply Message) → SlotsSound shape (messageRead r shape m body now-ms .memory .numbers) (messageRead r shape m body now-ms .memory .index)
-      read e (granted x) = sound-chunk shape m (x .header .source) now-ms (rooms-of shape m e) a (drop 13 body)
+      read e (granted x) = sound-chunk shape m (x .header .source) now-ms e a (drop 13 body)
       read e (refused number value) = a
 
       go : (hasAll shape m ≡ true) ⊎ (hasAll shape m ≡ false)

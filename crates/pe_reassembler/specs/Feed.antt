@@ -10,7 +10,7 @@ use Rattle.seven_bit.specs.Parts.{part, splice}
 use Rattle.seven_bit.specs.Reply.{Reply, granted, refused}
 use Rattle.midici_core.specs.Message.{Message, readMessage}
 use Rattle.pe_frame.specs.Chunk.{Chunk, Fields, readFields, chunkOf}
-use Rattle.pe_slot.specs.Feed.{Told, After, feedSlot}
+use Rattle.pe_slot.specs.Feed.{Told, After, reachedSlot}
 use Rattle.pe_slot.specs.Memory.{slotOf, isSound}
 use Rattle.pe_reassembler.specs.declared.shape.Shape.{Shape}
 use Rattle.pe_reassembler.specs.Table.{hasRooms, isMuid, isBound, boundTo, peerAt, slotAt, roomAt, recordFor, slotFor}
@@ -63,13 +63,13 @@ lifted shape m peer p s a =
     (a .out-header)
     (a .out-body))
 
--- Question 31, and then the chunk reaches the slot.
+-- Question 31; from there on the slot is touched, and its own questions settle what is left of it.
 unfoldable pub reach : Shape → Memory → ℕ → Chunk → ℕ → ℕ → ℕ → Fed
 reach shape m peer c now-ms p s =
     cond (isSound (shape .«header_bytes») (shape .«tx_bytes») (shape .«fragment_records»)
     (slotOf (wordsPart (m .numbers) p s)) (roomPart (shape .«fragment_records») (m .index) p s))
     (lifted shape m peer p s
-    (feedSlot (wordsPart (m .numbers) p s) (roomPart (shape .«fragment_records») (m .index) p s)
+    (reachedSlot (wordsPart (m .numbers) p s) (roomPart (shape .«fragment_records») (m .index) p s)
     (roomPart (shape .«header_bytes») (m .headers) p s) (roomPart (shape .«tx_bytes») (m .arenas) p s)
     c now-ms (nextTick (getD (m .numbers) 0 0)) (m .out-header) (m .out-body)))
     (fed (refused 31 0) m)

@@ -1,13 +1,13 @@
 -- What the private steps of a feed say.
 -- Assumes nothing.
 use Prim.Native.Nat.{ℕ}
-use mathlib.Core.Bool.{Bool, false, cond}
+use mathlib.Core.Bool.{Bool, true, false, cond}
 use mathlib.Core.List.{List}
 use lib.Dec.{eqb}
 use lib.ListN.{set}
 use Rattle.seven_bit.specs.Parts.{splice}
 use Rattle.seven_bit.specs.Reply.{Reply, granted, refused}
-use Rattle.pe_slot.specs.Feed.{Told, still, After}
+use Rattle.pe_slot.specs.Feed.{Told, After}
 use Rattle.pe_reassembler.specs.Feed.{Memory, memory, Fed, fed, bind}
 
 -- What the slot left, in its place: nine words from a place on, and rooms by their places and sizes.
@@ -31,7 +31,7 @@ isDamaged (refused number value) = eqb number 31
 abbrev pub noted : Reply Told → List ℕ → ℕ → ℕ → ℕ → List ℕ
 noted answer numbers tick peer p = cond (isDamaged answer) numbers (bind (set numbers 0 tick) peer p)
 
--- A reader's refusal, handed on.
-abbrev pub handed : {A : Type 0} → Reply A → Reply Told
-handed (granted a) = granted still
-handed (refused number value) = refused number value
+-- Is a reader's answer a refusal?
+abbrev pub isRefused : {A : Type 0} → Reply A → Bool
+isRefused (granted a) = false
+isRefused (refused number value) = true

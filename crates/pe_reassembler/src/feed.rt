@@ -25,12 +25,14 @@ ghost use Prim.Native.Nat.{_+_, _*_, _≤_, _<_};
 ghost use lib.ListN.{length};
 ghost use Rattle.seven_bit.specs.Reply.{granted};
 ghost use Rattle.pe_frame.specs.Chunk.{fieldsOf, chunkOf, readFields, chunkTold, chunkFrom};
+ghost use Rattle.midici_core.specs.Errors.{ciRefused};
 ghost use Rattle.midici_core.specs.Message.{messageTold};
+ghost use Rattle.pe_wire.specs.Errors.{peRefused};
 ghost use Rattle.pe_slot.specs.Feed.{fedTold, feedSlot};
 ghost use Rattle.seven_bit.specs.Parts.{part};
 ghost use Rattle.pe_reassembler.specs.Table.{roomAt};
-ghost use Rattle.pe_reassembler.specs.Feed.{fed, memory, nextTick, bind, hasAll, reach, atTable, chunkRead, feedCall, messageCall};
-ghost use Rattle.pe_reassembler.specs.Steps.{isDamaged, noted, spliced, handed};
+ghost use Rattle.pe_reassembler.specs.Feed.{fed, memory, nextTick, bind, hasAll, reach, atTable, feedCall, messageCall};
+ghost use Rattle.pe_reassembler.specs.Steps.{isDamaged, noted, spliced, isRefused};
 
 fn next_tick(clock: u64) -> u64
     ensures { λ r. ⌜ r ≡ nextTick clock ⌝ }
@@ -275,53 +277,15 @@ fn at_table(
     )
 }
 
-// A reader's refusal, handed on.
-fn not_read(read: ChunkRead) -> Fed
-    ensures { λ r. ⌜ fedTold r ≡ handed (chunkTold read) ⌝ }
+// The refusal of a chunk that was not read. The other case does not occur; the number in its arm is none of a feed's.
+fn refusal_of(read: ChunkRead) -> PeError
+    requires { ⌜ isRefused (chunkTold read) ≡ true ⌝ }
+    ensures { λ r. ⌜ peRefused r ≡ chunkTold read ⌝ }
 {
     match read {
-        ChunkRead::Value(_) => Fed::Waiting,
-        ChunkRead::Refused(e) => Fed::Refused(e),
+        ChunkRead::Refused(e) => e,
+        ChunkRead::Value(_) => PeError::ChunkOutOfRange,
     }
-}
-
-// Reads a chunk, and feeds it to the table.
-fn read_chunk(
-    shape: Shape,
-    numbers: &mut [u64],
-    index: &mut [u64],
-    headers: &mut [u8],
-    arenas: &mut [u8],
-    peer: u32,
-    data: &[u8],
-    now_ms: u64,
-    out_header: &mut [u8],
-    out_body: &mut [u8],
-) -> Fed
-    requires { ⌜ hasAll shape (memory (now numbers) (now index) (now headers) (now arenas) (now «out_header») (now «out_body»)) ≡ true ⌝ }
-    ensures { λ r. ⌜ fed (fedTold r)
-        (memory (now (numbers .exit)) (now (index .exit)) (now (headers .exit)) (now (arenas .exit)) (now («out_header» .exit))
-        (now («out_body» .exit))) ≡ chunkRead (readFields (now («data» .entry))) shape
-        (memory (now (numbers .entry)) (now (index .entry)) (now (headers .entry)) (now (arenas .entry)) (now («out_header» .entry))
-        (now («out_body» .entry))) peer (now («data» .entry)) «now_ms» ⌝ }
-{
-    let read = decode_fields(data);
-    let ChunkRead::Value(f) = read else {
-        return not_read(read);
-    };
-    at_table(
-        shape,
-        numbers,
-        index,
-        headers,
-        arenas,
-        peer,
-        data,
-        f,
-        now_ms,
-        out_header,
-        out_body,
-    )
 }
 
 // Feeds a chunk of a peer; a whole list goes into the two outputs.
@@ -349,7 +313,11 @@ pub fn feed(
     if peer > Muid::BROADCAST_VALUE {
         return Fed::Refused(PeError::Ci(CiError::InvalidMuid));
     }
-    read_chunk(
+    let read = decode_fields(raw_chunk);
+    let ChunkRead::Value(f) = read else {
+        return Fed::Refused(refusal_of(read));
+    };
+    at_table(
         shape,
         numbers,
         index,
@@ -357,19 +325,21 @@ pub fn feed(
         arenas,
         peer,
         raw_chunk,
+        f,
         now_ms,
         out_header,
         out_body,
     )
 }
 
-// The CI reader's refusal, handed on.
-fn no_message(read: MessageRead) -> Fed
-    ensures { λ r. ⌜ fedTold r ≡ handed (messageTold read) ⌝ }
+// The same of a message; no reader answers the number in the other arm.
+fn ci_refusal_of(read: MessageRead) -> CiError
+    requires { ⌜ isRefused (messageTold read) ≡ true ⌝ }
+    ensures { λ r. ⌜ ciRefused r ≡ messageTold read ⌝ }
 {
     match read {
-        MessageRead::Value(_) => Fed::Waiting,
-        MessageRead::Refused(e) => Fed::Refused(PeError::Ci(e)),
+        MessageRead::Refused(e) => e,
+        MessageRead::Value(_) => CiError::BufferTooSmall,
     }
 }
 
@@ -396,17 +366,23 @@ pub fn feed_message(
     }
     let read = PeMessage::decode(body);
     let MessageRead::Value(m) = read else {
-        return no_message(read);
+        return Fed::Refused(PeError::Ci(ci_refusal_of(read)));
     };
     let peer = m.header.source.0;
-    read_chunk(
+    let raw_chunk = &body[CI_HEADER_LEN..];
+    let chunk = decode_fields(raw_chunk);
+    let ChunkRead::Value(f) = chunk else {
+        return Fed::Refused(refusal_of(chunk));
+    };
+    at_table(
         shape,
         numbers,
         index,
         headers,
         arenas,
         peer,
-        &body[CI_HEADER_LEN..],
+        raw_chunk,
+        f,
         now_ms,
         out_header,
         out_body,

@@ -1,17 +1,18 @@
 use mathlib.Core.Path.{sym, ap, _∙_}
 use native.Mathlib.Omega.{arith}
+use denote.Ref.{now}
+use Rattle.seven_bit.proofs.PartLaws.{rest}
+use Rattle.midici_core.specs.declared.pe_msg.MessageRead.{MessageRead}
+use Rattle.midici_core.specs.Message.{messageTold}
+use Rattle.pe_frame.specs.declared.frame.ChunkRead.{ChunkRead}
+use Rattle.pe_frame.specs.Chunk.{chunkTold}
+use Rattle.pe_reassembler.specs.Feed.{messageCall}
+use Rattle.pe_reassembler.specs.Steps.{isRefused}
+use Rattle.pe_reassembler.proofs.TableLaws.{yes, no}
+use Rattle.pe_reassembler.proofs.FeedLaws.{chunk-as, message-as, message-long}
 use borrow.Author.Needs.{needs}
 use Rattle.pe_reassembler.proofs.feed.feed_message.Statement.{statement}
 use Rattle.pe_reassembler.proofs.feed.feed_message.Tie as tie
-use denote.Ref.{now}
-use Rattle.seven_bit.specs.Reply.{Reply}
-use Rattle.seven_bit.proofs.PartLaws.{rest}
-use Rattle.midici_core.specs.declared.pe_msg.MessageRead.{MessageRead}
-use Rattle.midici_core.specs.Message.{Message, messageTold}
-use Rattle.pe_reassembler.specs.Feed.{messageCall}
-use Rattle.pe_reassembler.specs.Steps.{handed}
-use Rattle.pe_reassembler.proofs.TableLaws.{yes, no}
-use Rattle.pe_reassembler.proofs.FeedLaws.{message-long}
 
 has-all-requires : tie.Need-has-all-requires
 has-all-requires c κs = search needs
@@ -47,8 +48,8 @@ enum-known-read c = search needs
 enum-told : tie.Need-enum-told
 enum-told c = search needs
 
-no-message-requires : tie.Need-no-message-requires
-no-message-requires c κs = search needs
+ci-refusal-of-requires : tie.Need-ci-refusal-of-requires
+ci-refusal-of-requires c κs = ap (λ (x : MessageRead). isRefused (messageTold x)) (c .enum-told .given .1)
 
 same-length-7 : tie.Need-same-length-7
 same-length-7 c = search needs
@@ -70,21 +71,28 @@ same-length-12 c = search needs
 
 returns-2 : tie.Need-returns-2
 unfolding messageCall
-returns-2 c =
-    let g = ap (λ (x : MessageRead). messageTold x) (c .before .enum-told .given .1) in
-    rw (yes (c .before .before .before .before .before .has-all .ensures) (c .before .before .before .before .if1 .left), c .no-message .ensures ∙ ap (λ (x : Reply Message). handed x) g, sym (c .before .before .before .decode .ensures) ∙ g)
+returns-2 c = rw (yes (c .before .before .before .before .before .has-all .ensures) (c .before .before .before .before .if1 .left), sym (c .ci-refusal-of .ensures ∙ c .before .before .before .decode .ensures))
 
-sub-read-chunk : tie.Need-sub-read-chunk
-sub-read-chunk c = let l = message-long _ _ (sym (c .before .before .before .before .before .before .before .decode .ensures) ∙ ap (λ (x : MessageRead). messageTold x) (c .before .before .before .before .before .read .given .1)) in omega (arith, l)
+sub-raw-chunk : tie.Need-sub-raw-chunk
+sub-raw-chunk c = let l = message-long _ _ (message-as (c .before .before .before .decode .ensures) (c .before .read .given .1)) in omega (arith, l)
 
-part-read-chunk-start : tie.Need-part-read-chunk-start
-part-read-chunk-start c = let l = message-long _ _ (sym (c .before .before .before .before .before .before .before .decode .ensures) ∙ ap (λ (x : MessageRead). messageTold x) (c .before .before .before .before .before .read .given .1)) in omega (arith, l)
+part-raw-chunk-start : tie.Need-part-raw-chunk-start
+part-raw-chunk-start c = let l = message-long _ _ (message-as (c .before .before .before .decode .ensures) (c .before .read .given .1)) in omega (arith, l)
 
-part-read-chunk-end : tie.Need-part-read-chunk-end
-part-read-chunk-end c = search needs
+part-raw-chunk-end : tie.Need-part-raw-chunk-end
+part-raw-chunk-end c = search needs
 
-read-chunk-requires : tie.Need-read-chunk-requires
-read-chunk-requires c κs = yes (c .before .before .before .before .before .before .before .before .before .before .before .before .has-all .ensures) (c .before .before .before .before .before .before .before .before .before .before .before .if1 .left)
+decode-fields-requires : tie.Need-decode-fields-requires
+decode-fields-requires c κs = search needs
+
+enum-known-chunk : tie.Need-enum-known-chunk
+enum-known-chunk c = search needs
+
+enum-told-2 : tie.Need-enum-told-2
+enum-told-2 c = search needs
+
+refusal-of-requires : tie.Need-refusal-of-requires
+refusal-of-requires c κs = ap (λ (x : ChunkRead). isRefused (chunkTold x)) (c .enum-told2 .given .1)
 
 same-length-13 : tie.Need-same-length-13
 same-length-13 c = search needs
@@ -107,8 +115,36 @@ same-length-18 c = search needs
 returns-3 : tie.Need-returns-3
 unfolding messageCall
 returns-3 c =
-    rw (yes (c .before .before .before .before .before .before .before .before .before .before .before .before .before .before .before .before .before .before .before .before .before .before .before .before .before .has-all .ensures) (c .before .before .before .before .before .before .before .before .before .before .before .before .before .before .before .before .before .before .before .before .before .before .before .before .if1 .left), sym (c .before .before .before .before .before .before .before .before .before .before .before .before .before .before .before .before .before .before .before .before .before .before .before .decode .ensures) ∙ ap (λ (x : MessageRead). messageTold x) (c .before .before .before .before .before .before .before .before .before .before .before .before .before .before .before .before .before .before .before .before .before .read .given .1))
-    (rw (rest 13 (now (c .before .before .before .before .before .before .before .before .before .before .before .before .before .before .before .before .before .before .before .before .before .before .before .before .before .before .before .before .before .before .before .before .before .before .before .before .before .before .before .args .body))) at (c .before .before .before .before .before .before .before .before .before .before .before .before .read-chunk .ensures))
+    rw (yes (c .before .before .before .before .before .before .before .before .before .before .has-all .ensures) (c .before .before .before .before .before .before .before .before .before .if1 .left), message-as (c .before .before .before .before .before .before .before .before .decode .ensures) (c .before .before .before .before .before .before .read .given .1))
+    (rw (sym (rw (rest 13 (now (c .before .before .before .before .before .before .before .before .before .before .before .before .before .before .before .before .before .before .before .before .before .before .before .before .args .body))) at (c .refusal-of .ensures ∙ c .before .before .before .decode-fields .ensures))))
+
+at-table-requires : tie.Need-at-table-requires
+at-table-requires c κs = (yes (c .before .before .before .before .before .before .before .before .before .before .before .before .before .before .before .before .has-all .ensures) (c .before .before .before .before .before .before .before .before .before .before .before .before .before .before .before .if1 .left), chunk-as (c .before .before .before .before .before .before .before .before .before .decode-fields .ensures) (c .before .before .before .before .before .before .before .chunk .given .1))
+
+same-length-19 : tie.Need-same-length-19
+same-length-19 c = search needs
+
+same-length-20 : tie.Need-same-length-20
+same-length-20 c = search needs
+
+same-length-21 : tie.Need-same-length-21
+same-length-21 c = search needs
+
+same-length-22 : tie.Need-same-length-22
+same-length-22 c = search needs
+
+same-length-23 : tie.Need-same-length-23
+same-length-23 c = search needs
+
+same-length-24 : tie.Need-same-length-24
+same-length-24 c = search needs
+
+returns-4 : tie.Need-returns-4
+unfolding messageCall
+returns-4 c =
+    rw (yes (c .before .before .before .before .before .before .before .before .before .before .before .before .before .before .before .before .before .before .before .before .before .before .before .before .before .before .before .before .before .has-all .ensures) (c .before .before .before .before .before .before .before .before .before .before .before .before .before .before .before .before .before .before .before .before .before .before .before .before .before .before .before .before .if1 .left), message-as (c .before .before .before .before .before .before .before .before .before .before .before .before .before .before .before .before .before .before .before .before .before .before .before .before .before .before .before .decode .ensures) (c .before .before .before .before .before .before .before .before .before .before .before .before .before .before .before .before .before .before .before .before .before .before .before .before .before .read .given .1))
+    (rw (rw (rest 13 (now (c .before .before .before .before .before .before .before .before .before .before .before .before .before .before .before .before .before .before .before .before .before .before .before .before .before .before .before .before .before .before .before .before .before .before .before .before .before .before .before .before .before .before .before .args .body))) at (chunk-as (c .before .before .before .before .before .before .before .before .before .before .before .before .before .before .before .before .before .before .before .before .before .before .decode-fields .ensures) (c .before .before .before .before .before .before .before .before .before .before .before .before .before .before .before .before .before .before .before .before .chunk .given .1)))
+    (rw (rest 13 (now (c .before .before .before .before .before .before .before .before .before .before .before .before .before .before .before .before .before .before .before .before .before .before .before .before .before .before .before .before .before .before .before .before .before .before .before .before .before .before .before .before .before .before .before .args .body))) at (c .before .before .before .before .before .before .before .before .before .before .before .before .at-table .ensures)))
 
 pub feed-message-spec : {M : Type 1} → statement M
 feed-message-spec =
@@ -125,7 +161,7 @@ feed-message-spec =
     decode-requires
     enum-known-read
     enum-told
-    no-message-requires
+    ci-refusal-of-requires
     same-length-7
     same-length-8
     same-length-9
@@ -133,14 +169,25 @@ feed-message-spec =
     same-length-11
     same-length-12
     returns-2
-    sub-read-chunk
-    part-read-chunk-start
-    part-read-chunk-end
-    read-chunk-requires
+    sub-raw-chunk
+    part-raw-chunk-start
+    part-raw-chunk-end
+    decode-fields-requires
+    enum-known-chunk
+    enum-told-2
+    refusal-of-requires
     same-length-13
     same-length-14
     same-length-15
     same-length-16
     same-length-17
     same-length-18
-    returns-3)
+    returns-3
+    at-table-requires
+    same-length-19
+    same-length-20
+    same-length-21
+    same-length-22
+    same-length-23
+    same-length-24
+    returns-4)
