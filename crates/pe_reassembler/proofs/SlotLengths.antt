@@ -11,10 +11,10 @@ use lib.Dec.{eqb}
 use lib.ListN.{length, length-set}
 use Rattle.seven_bit.proofs.PartLaws.{length-part, length-splice}
 use Rattle.pe_frame.specs.Chunk.{Chunk}
-use Rattle.pe_slot.specs.declared.slot.TxSlot.{TxSlot}
+use Rattle.pe_slot.specs.declared.layout.TxSlot.{TxSlot}
 use Rattle.pe_slot.specs.Slot.{Verdict, judge}
 use Rattle.pe_slot.specs.Memory.{slotOf, wordsOf, packed, contents, isSound}
-use Rattle.pe_slot.specs.Feed.{After, touched, grown, closed, placed, reachedSlot}
+use Rattle.pe_slot.specs.Feed.{SlotLeft, touched, grown, closedSlot, placed, reachedSlot}
 use Rattle.pe_slot.proofs.FeedLaws.{newIndex, newArena, length-kept}
 use Rattle.pe_slot.proofs.FeedTheorems.{Sound, sound-told, opened}
 use Rattle.pe_slot.proofs.JudgeLaws.{Fitting, judge-fitting}
@@ -25,7 +25,7 @@ use Rattle.pe_reassembler.proofs.Effects.{Sized, Roomy, rooms-told}
 use Rattle.pe_reassembler.proofs.FeedLaws.{room-in}
 
 -- a slot's parts as long as they were
-pub record SameLengths (index header arena : List ℕ) (a : After) : Type 0 where
+pub record SameLengths (index header arena : List ℕ) (a : SlotLeft) : Type 0 where
   pub nine : length (a .words) ≡ 9
   pub records : length (a .index) ≡ length index
   pub header-bytes : length (a .header) ≡ length header
@@ -67,7 +67,7 @@ module _ (t : TxSlot) (index header arena : List ℕ) (c : Chunk) (out-header ou
   unfolding placed
   placed-blank o v = go (v .closes) (grown t c v) o
     where
-      go : (b : Bool) (g : TxSlot) → eqb (g .active) 0 ≡ false → Blank (slotOf (wordsOf (cond b (closed g) g)))
+      go : (b : Bool) (g : TxSlot) → eqb (g .active) 0 ≡ false → Blank (slotOf (wordsOf (cond b (closedSlot g) g)))
       go true g e = λ (z : _). (refl, refl)
       go false g e = λ (z : g .active ≡ 0). absurd (let y : _≡_ {A = Bool} true false = sym (eq-eqb _ _ z) ∙ e in let x : _≡_ {A = ℕ} 0 1 = cc in omega arith)
 
@@ -79,7 +79,7 @@ module _ (t : TxSlot) (index header arena : List ℕ) (c : Chunk) (out-header ou
       storing true e = absurd (let z : _≡_ {A = ℕ} 1 0 = e in omega arith)
       storing false e = h e
 
-      closing : (b : Bool) (g : TxSlot) → Headed g → Headed (slotOf (wordsOf (cond b (closed g) g)))
+      closing : (b : Bool) (g : TxSlot) → Headed g → Headed (slotOf (wordsOf (cond b (closedSlot g) g)))
       closing true g e = λ (z : _). refl
       closing false g e = e
 

@@ -18,7 +18,7 @@ use Rattle.pe_frame.specs.Chunk.{Chunk, Fields, readFields, chunkOf}
 use Rattle.pe_frame.proofs.RoundTrip.{read-told, read-in-range}
 use Rattle.pe_wire.proofs.RoundTrip.{read-small}
 use Rattle.pe_slot.specs.Memory.{slotOf, wordsOf, endsAt, isSound}
-use Rattle.pe_slot.specs.Feed.{After, closed, reachedSlot}
+use Rattle.pe_slot.specs.Feed.{SlotLeft, closedSlot, reachedSlot}
 use Rattle.pe_slot.proofs.FeedTheorems.{sound-again}
 use Rattle.pe_reassembler.specs.declared.shape.Shape.{Shape}
 use Rattle.pe_reassembler.specs.Calls.{numbered, newCall, closeAt, cancelIn, cancelAt, cancelCall, dropAt, dropCall}
@@ -44,7 +44,7 @@ pub record SlotsSound (shape : Shape) (numbers index : List ℕ) : Type 0 where
       → SlotSound (shape .«header_bytes») (shape .«tx_bytes») (shape .«fragment_records») (wordsPart numbers p s) (roomPart (shape .«fragment_records») index p s)
 
 -- a slot that is closed
-closed-sound : (H B R : ℕ) (words records : List ℕ) → SlotSound H B R (wordsOf (closed (slotOf words))) records
+closed-sound : (H B R : ℕ) (words records : List ℕ) → SlotSound H B R (wordsOf (closedSlot (slotOf words))) records
 unfolding isSound endsAt
 closed-sound H B R words records =
     record {
@@ -53,7 +53,7 @@ closed-sound H B R words records =
       headed = λ (z : _). refl;
     }
 
-closed-if : (H B R : ℕ) (words records : List ℕ) (b : Bool) → SlotSound H B R words records → SlotSound H B R (cond b (wordsOf (closed (slotOf words))) words) records
+closed-if : (H B R : ℕ) (words records : List ℕ) (b : Bool) → SlotSound H B R words records → SlotSound H B R (cond b (wordsOf (closedSlot (slotOf words))) words) records
 closed-if H B R words records true s = closed-sound H B R words records
 closed-if H B R words records false s = s
 
@@ -180,7 +180,7 @@ module _ (shape : Shape) (m : Memory) (peer now-ms : ℕ) (e : hasAll shape m �
     abbrev tick : ℕ
     tick = nextTick (getD (m .numbers) 0 0)
 
-    abbrev slot-reached : After
+    abbrev slot-reached : SlotLeft
     slot-reached = reachedSlot words records header arena c now-ms tick (m .out-header) (m .out-body)
 
     sized : Sized shape slot-reached
@@ -191,7 +191,7 @@ module _ (shape : Shape) (m : Memory) (peer now-ms : ℕ) (e : hasAll shape m �
 
     sound-after : isSound (length (slot-reached .header)) (length (slot-reached .arena)) (length (slot-reached .index)) (slotOf (slot-reached .words)) (slot-reached .index) ≡ true
     sound-after =
-        subst (λ (x : After). isSound (length (x .header)) (length (x .arena)) (length (x .index)) (slotOf (x .words)) (x .index) ≡ true)
+        subst (λ (x : SlotLeft). isSound (length (x .header)) (length (x .arena)) (length (x .index)) (slotOf (x .words)) (x .index) ≡ true)
         (fed-reached words records header arena c now-ms tick (m .out-header) (m .out-body) (is-shaped shape m peer c now-ms p s e k l) sound-before short)
         (sound-again words records header arena c now-ms tick (m .out-header) (m .out-body) named sound-before)
 

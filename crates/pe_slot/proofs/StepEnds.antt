@@ -16,12 +16,13 @@ use Rattle.pe_wire.specs.declared.error.PeError.{PeError}
 use Rattle.pe_wire.specs.declared.error.PeError.the-variants.{HeaderTooLarge, Oversize, InconsistentChunking}
 use Rattle.pe_frame.specs.Chunk.{Chunk}
 use Rattle.pe_slot.specs.declared.slot.Asked.{Asked}
-use Rattle.pe_slot.specs.declared.slot.TxSlot.{TxSlot}
+use Rattle.pe_slot.specs.declared.layout.TxSlot.{TxSlot}
+use Rattle.pe_slot.specs.Layout.{numChunksAt, headerSetAt, headerLenAt, indexLenAt, propertyBytesAt}
 use Rattle.pe_slot.specs.Slot.{Verdict, eqList, passed, judge}
 use Rattle.pe_slot.specs.Memory.{slotOf, wordsOf, packed, contents}
 use Rattle.pe_slot.specs.Records.{holds}
-use Rattle.pe_slot.specs.Feed.{Told, After, after, grown, placed}
-use Rattle.pe_slot.specs.Steps.{Ready, cleared, HeaderTaken, headerTaken, takeHeader, CountTaken, countTaken, takeCount, PieceAdded, pieceAdded, addPiece, Finished, finished, finishOf}
+use Rattle.pe_slot.specs.Feed.{cleared, Told, SlotLeft, slotLeft, grown, placed}
+use Rattle.pe_slot.specs.Steps.{Ready, HeaderTaken, headerTaken, takeHeader, CountTaken, countTaken, takeCount, PieceAdded, pieceAdded, addPiece, Finished, finished, finishOf}
 use Rattle.pe_slot.proofs.SlotMemory.{ends-grown}
 use Rattle.pe_slot.proofs.SlotWords.{words-slot}
 use Rattle.pe_slot.proofs.JudgeLaws.{askedAs, judge-is}
@@ -37,7 +38,7 @@ module _ (t : TxSlot) {index header arena out-header out-body : List ℕ} (ready
           → (let k : HeaderTaken =
           cond o
           (cond f
-          (cond u (headerTaken Asked.Yes (set (set (wordsOf t) 5 1) 6 (length new)) (splice 0 (length new) header new))
+          (cond u (headerTaken Asked.Yes (set (set (wordsOf t) headerSetAt 1) headerLenAt (length new)) (splice 0 (length new) header new))
           (cond s (headerTaken Asked.Yes (wordsOf t) header) (headerTaken (Asked.No InconsistentChunking) (wordsOf t) header)))
           (headerTaken (Asked.No HeaderTooLarge) (wordsOf t) header))
           (headerTaken Asked.Yes (wordsOf t) header) in
@@ -67,7 +68,7 @@ module _ (t : TxSlot) {index header arena out-header out-body : List ℕ} (ready
     where
       go : (n k : Bool)
           → Ready
-          (cond n (countTaken true (wordsOf t)) (cond k (countTaken true (set (wordsOf t) 4 count)) (countTaken (eqb (t .«num_chunks») count) (wordsOf t))) .words)
+          (cond n (countTaken true (wordsOf t)) (cond k (countTaken true (set (wordsOf t) numChunksAt count)) (countTaken (eqb (t .«num_chunks») count) (wordsOf t))) .words)
           index header arena out-header out-body
       go true k = ready
       go false true =
@@ -99,7 +100,7 @@ module _ (t : TxSlot) {index header arena out-header out-body : List ℕ} (ready
           (cond h (pieceAdded (Asked.No InconsistentChunking) (wordsOf t) index arena)
           (cond f
           (cond r
-          (pieceAdded Asked.Yes (set (set (wordsOf t) 7 (t .«index_len» + 1)) 8 (t .«property_bytes» + length property))
+          (pieceAdded Asked.Yes (set (set (wordsOf t) indexLenAt (t .«index_len» + 1)) propertyBytesAt (t .«property_bytes» + length property))
           (set index (t .«index_len») (packed number (length property) (t .«property_bytes»))) (splice (t .«property_bytes») (length property) arena property))
           (pieceAdded (Asked.No Oversize) (cleared (wordsOf t)) index arena))
           (pieceAdded (Asked.No Oversize) (wordsOf t) index arena))) in
@@ -137,7 +138,7 @@ module _ {words index header arena : List ℕ} {c : Chunk} {held : Bool} {out-he
   short-piece : length (c .property) < 65536
   short-piece = let s = r .short in omega arith
 
-  abbrev said : After
+  abbrev said : SlotLeft
   said = placed (slotOf words) index header arena c (judge (length header) (length arena) (length index) (contents (slotOf words) index header arena) c) out-header out-body
 
   fed-steps : afterHeader index header arena c held out-header out-body (takeHeader words header (c .chunk-num) (c .header)) ≡ said
@@ -152,7 +153,7 @@ module _ {words index header arena : List ℕ} {c : Chunk} {held : Bool} {out-he
     header-as : (b : Asked) → a ≡ b → afterHeader index header arena c held out-header out-body (headerTaken b w h) ≡ said
     header-as b q = ap (λ (x : Asked). afterHeader index header arena c held out-header out-body (headerTaken x w h)) (sym q) ∙ ap (afterHeader index header arena c held out-header out-body) k ∙ fed-steps
 
-    pub header-no : {e : PeError} → a ≡ Asked.No e → after (peRefused e) w index h arena out-header out-body ≡ said
+    pub header-no : {e : PeError} → a ≡ Asked.No e → slotLeft (peRefused e) w index h arena out-header out-body ≡ said
     header-no {e} q = header-as (Asked.No e) q
 
     pub ready-header : Ready w index h arena out-header out-body
@@ -168,7 +169,7 @@ module _ {words index header arena : List ℕ} {c : Chunk} {held : Bool} {out-he
           ∙ ap (λ (x : CountTaken). afterCount index header arena c held out-header out-body x h) l
           ∙ header-as Asked.Yes yes
 
-      pub count-no : b ≡ false → after (refused 8 0) v index h arena out-header out-body ≡ said
+      pub count-no : b ≡ false → slotLeft (refused 8 0) v index h arena out-header out-body ≡ said
       count-no q = count-as false q
 
       pub ready-count : Ready v index h arena out-header out-body
@@ -184,7 +185,7 @@ module _ {words index header arena : List ℕ} {c : Chunk} {held : Bool} {out-he
             ∙ ap (λ (z : PieceAdded). afterPiece index header arena c held out-header out-body z h) n
             ∙ count-as true same
 
-        pub piece-no : {e : PeError} → d ≡ Asked.No e → after (peRefused e) x i h m out-header out-body ≡ said
+        pub piece-no : {e : PeError} → d ≡ Asked.No e → slotLeft (peRefused e) x i h m out-header out-body ≡ said
         piece-no {e} q = piece-as (Asked.No e) q
 
         module _ (added : d ≡ Asked.Yes) where
@@ -196,5 +197,5 @@ module _ {words index header arena : List ℕ} {c : Chunk} {held : Bool} {out-he
               (piece-ready (slotOf v) (subst (λ (u : List ℕ). Ready u index h arena out-header out-body) w ready-count) (c .chunk-num) (c .property) held (r .named) short-piece))
               added
 
-          pub all-passed : {q : Reply Told} {y oh ob : List ℕ} → finished q y oh ob ≡ finishOf x (contents (slotOf x) i h m) out-header out-body → after q y i h m oh ob ≡ said
-          all-passed e = ap (λ (f : Finished). after (f .answer) (f .words) i h m (f .out-header) (f .out-body)) e ∙ piece-as Asked.Yes added
+          pub all-passed : {q : Reply Told} {y oh ob : List ℕ} → finished q y oh ob ≡ finishOf x (contents (slotOf x) i h m) out-header out-body → slotLeft q y i h m oh ob ≡ said
+          all-passed e = ap (λ (f : Finished). slotLeft (f .answer) (f .words) i h m (f .out-header) (f .out-body)) e ∙ piece-as Asked.Yes added

@@ -5,7 +5,7 @@ use mathlib.Core.Bool.{true}
 use borrow.Author.Tests.{not-true, not-false}
 use denote.Ref.{now}
 use Rattle.pe_frame.specs.Chunk.{Chunk}
-use Rattle.pe_slot.specs.declared.slot.TxSlot.{TxSlot}
+use Rattle.pe_slot.specs.declared.layout.TxSlot.{TxSlot}
 use Rattle.pe_slot.specs.Memory.{slotOf, isSound}
 use Rattle.pe_slot.specs.Feed.{isShaped}
 use Rattle.pe_slot.proofs.FeedAsked.{Shaped, shaped-told, Bounded, bounded-told, unbounded, unlaid, sound, ends, fed-unshaped, fed-damaged, fed-long, fed-sound}
@@ -54,7 +54,7 @@ returns c =
     let u5 = c .before .before .before .before .before in
     let u10 = u5 .before .before .before .before .before in
     let a = u10 .args in
-    fed-unshaped (now (a .words)) (now (a .index)) (now (a .header)) (now (a .arena)) (chunk (u10)) (a .now-ms) (a .tick) (now (a .out-header)) (now (a .out-body))
+    fed-unshaped (now (a .words)) (now (a .index)) (now (a .header)) (now (a .arena)) (chunk (u10)) (a .moment .«now_ms») (a .moment .tick) (now (a .out-header)) (now (a .out-body))
     (unfold isShaped in (sym (c .before .is-shaped .ensures) ∙ not-true _ (c .if1 .taken)))
 
 slice-read-len : tie.Need-slice-read-len
@@ -78,7 +78,7 @@ returns-2 c =
     let u10 = u5 .before .before .before .before .before in
     let u15 = u10 .before .before .before .before .before in
     let a = u15 .before .args in
-    fed-damaged (now (a .words)) (now (a .index)) (now (a .header)) (now (a .arena)) (chunk (u15 .before)) (a .now-ms) (a .tick) (now (a .out-header)) (now (a .out-body))
+    fed-damaged (now (a .words)) (now (a .index)) (now (a .header)) (now (a .arena)) (chunk (u15 .before)) (a .moment .«now_ms») (a .moment .tick) (now (a .out-header)) (now (a .out-body))
     (is-shaped (c .before .before .before .before .before .before)) (unbounded _ _ _ (slot (u15 .before)) (now (a .index)) (c .before .is-bounded .ensures) (c .if2 .taken))
 
 scan-requires : tie.Need-scan-requires
@@ -99,7 +99,7 @@ returns-3 c =
     let u15 = u10 .before .before .before .before .before in
     let u20 = u15 .before .before .before .before .before in
     let a = u20 .args in
-    fed-damaged (now (a .words)) (now (a .index)) (now (a .header)) (now (a .arena)) (chunk (u20)) (a .now-ms) (a .tick) (now (a .out-header)) (now (a .out-body))
+    fed-damaged (now (a .words)) (now (a .index)) (now (a .header)) (now (a .arena)) (chunk (u20)) (a .moment .«now_ms») (a .moment .tick) (now (a .out-header)) (now (a .out-body))
     (is-shaped (u10)) (unlaid _ _ _ (slot (u20)) _ (c .before .before .before .before .before .is-bounded .ensures) (c .before .before .scan .ensures) (c .before .ends-at .ensures) (c .if3 .taken))
 
 cast-if4 : tie.Need-cast-if4
@@ -115,7 +115,7 @@ returns-4 c =
     let u15 = u10 .before .before .before .before .before in
     let u20 = u15 .before .before .before .before .before in
     let a = u20 .before .args in
-    fed-long (now (a .words)) (now (a .index)) (now (a .header)) (now (a .arena)) (chunk (u20 .before)) (a .now-ms) (a .tick) (now (a .out-header)) (now (a .out-body))
+    fed-long (now (a .words)) (now (a .index)) (now (a .header)) (now (a .arena)) (chunk (u20 .before)) (a .moment .«now_ms») (a .moment .tick) (now (a .out-header)) (now (a .out-body))
     (is-shaped (u10 .before)) (is-sound (c .before)) (c .if4 .taken)
 
 touch-requires : tie.Need-touch-requires
@@ -178,7 +178,7 @@ returns-5 c =
     let u35 = u30 .before .before .before .before .before in
     let u40 = u35 .before .before .before .before .before in
     let a = u40 .before .before .before .before .args in
-    fed-sound (now (a .words)) (now (a .index)) (now (a .header)) (now (a .arena)) (chunk (u40 .before .before .before .before)) (a .now-ms) (a .tick) (now (a .out-header)) (now (a .out-body))
+    fed-sound (now (a .words)) (now (a .index)) (now (a .header)) (now (a .arena)) (chunk (u40 .before .before .before .before)) (a .moment .«now_ms») (a .moment .tick) (now (a .out-header)) (now (a .out-body))
     (is-shaped (u30 .before .before .before .before)) (is-sound (u20 .before .before .before .before)) (u20 .before .before .before .if4 .left) (u20 .before .touch .ensures) (u10 .before .before .feed-sound .ensures)
 
 pub feed-slot-spec : {M : Type 1} → statement M

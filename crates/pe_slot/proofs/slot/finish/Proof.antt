@@ -1,10 +1,11 @@
-use mathlib.Core.Path.{sym, refl}
+use mathlib.Core.Path.{sym, refl, _∙_}
 use native.Mathlib.Omega.{arith}
 use lib.Seq.{length-take-le}
 use denote.Ref.{now}
 use Rattle.pe_slot.specs.Memory.{slotOf}
 use Rattle.pe_slot.proofs.OrderJoinLaws.{join-short}
 use Rattle.pe_slot.proofs.FeedLaws.{finish-headless, finish-countless, finish-missing, finish-whole}
+use Rattle.pe_slot.proofs.SlotWords.{close-nine}
 use borrow.Author.Needs.{needs}
 use Rattle.pe_slot.proofs.slot.finish.Statement.{statement}
 use Rattle.pe_slot.proofs.slot.finish.Tie as tie
@@ -83,14 +84,8 @@ slice-aggregate-copy-in c =
 copy-in-requires : tie.Need-copy-in-requires
 copy-in-requires c κs = search needs
 
-clear-requires : tie.Need-clear-requires
-clear-requires c κs =
-    let u5 = c .before .before .before .before .before in
-    let u10 = u5 .before .before .before .before .before in
-    let u15 = u10 .before .before .before .before .before in
-    let u20 = u15 .before .before .before .before .before in
-    let u25 = u20 .before .before .before .before .before in
-    u25 .before .before .pre .nine
+close-requires : tie.Need-close-requires
+close-requires c κs = search needs
 
 same-length-2 : tie.Need-same-length-2
 same-length-2 c = search needs
@@ -112,7 +107,7 @@ returns-5 c =
     let a = u30 .args in
     finish-whole (now (a .words)) (now (a .index)) (now (a .header)) (now (a .arena)) (now (a .out-header)) (now (a .out-body))
     (u20 .before .before .if1 .left) (u20 .if2 .left) (u15 .join .ensures) (u10 .before .body-len .given .0 .0)
-    (c .before .before .clear .ensures) (u10 .before .body-len .given .1) (c .before .before .before .before .before .before .copy-in .ensures) (u30 .pre .head) (u30 .pre .header-room)
+    (c .before .before .close .ensures ∙ close-nine _ (u30 .pre .nine)) (u10 .before .body-len .given .1) (c .before .before .before .before .before .before .copy-in .ensures) (u30 .pre .head) (u30 .pre .header-room)
 
 pub finish-spec : {M : Type 1} → statement M
 finish-spec =
@@ -133,7 +128,7 @@ finish-spec =
     slice-read-header-len
     slice-aggregate-copy-in
     copy-in-requires
-    clear-requires
+    close-requires
     same-length-2
     same-length-3
     same-length-4
