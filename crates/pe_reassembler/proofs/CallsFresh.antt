@@ -11,9 +11,10 @@ use lib.Seq.{drop-drop, length-take-le}
 use Rattle.seven_bit.specs.Parts.{splice, put}
 use Rattle.seven_bit.proofs.PartLaws.{put-one, put-put, put-is, put-front}
 use Rattle.seven_bit.specs.Reply.{granted}
+use Rattle.pe_slot.specs.Layout.{slotWords}
 use Rattle.pe_reassembler.specs.declared.shape.Shape.{Shape}
 use Rattle.pe_reassembler.specs.Calls.{freshPeers, fresh, newCall}
-use Rattle.pe_reassembler.specs.Table.{hasRooms, peerAt, numbersLen, roomsLen}
+use Rattle.pe_reassembler.specs.Table.{hasRooms, peerAt, numbersLen, roomsLen, peerWords}
 use Rattle.pe_reassembler.proofs.TableClose.{part-back}
 use Rattle.pe_reassembler.proofs.TableLaws.{index-long}
 
@@ -32,17 +33,17 @@ zero-all w i h k =
     ∙ rw (drop-of-length-le w {i = length (replicate {A = ℕ} i 0)} (omega arith), append-nil, e)
 
 -- the record of one peer
-pub fresh-one : (w : List ℕ) {z : List ℕ} → length w ≡ 38 → z ≡ replicate (length w) 0 → set z 1 0x0FFFFFFF ≡ freshPeers 1
+pub fresh-one : (w : List ℕ) {z : List ℕ} → length w ≡ peerWords → z ≡ replicate (length w) 0 → set z 1 0x0FFFFFFF ≡ freshPeers 1
 unfolding freshPeers
 fresh-one w h e = rw (e, h)
 
-pub length-fresh : (n : ℕ) → length (freshPeers n) ≡ 38 * n
+pub length-fresh : (n : ℕ) → length (freshPeers n) ≡ peerWords * n
 unfolding freshPeers
 length-fresh zero = refl
 length-fresh (suc n) =
     let e = length-fresh n in
-    let l : length (replicate 36 0 ++ freshPeers n) ≡ length (replicate {A = ℕ} 36 0) + length (freshPeers n)
-    = length-append (replicate 36 0) (freshPeers n) in
+    let l : length (replicate (4 * slotWords) 0 ++ freshPeers n) ≡ length (replicate {A = ℕ} (4 * slotWords) 0) + length (freshPeers n)
+    = length-append (replicate (4 * slotWords) 0) (freshPeers n) in
     omega arith
 
 fresh-next : (n : ℕ) → freshPeers n ++ freshPeers 1 ≡ freshPeers (suc n)
@@ -50,7 +51,7 @@ unfolding freshPeers
 fresh-next zero = refl
 fresh-next (suc n) =
     ap (λ (l : List ℕ). 0 ∷ 0x0FFFFFFF ∷ l)
-    (append-assoc (replicate 36 0) (freshPeers n) (freshPeers 1) ∙ ap (λ (l : List ℕ). replicate 36 0 ++ l) (fresh-next n))
+    (append-assoc (replicate (4 * slotWords) 0) (freshPeers n) (freshPeers 1) ∙ ap (λ (l : List ℕ). replicate (4 * slotWords) 0 ++ l) (fresh-next n))
 
 -- one record more
 splice-put : (a k : ℕ) (xs ys : List ℕ) → a + k ≤ length xs → length ys ≡ k → splice a k xs ys ≡ put xs a ys
@@ -58,14 +59,14 @@ splice-put a k xs ys h e =
     let l : a + length ys ≤ length xs = omega arith in
     rw (drop-drop k a xs, put-is xs a ys l, e, append-assoc)
 
-pub fresh-step : (n0 : List ℕ) (p : ℕ) {numbers words : List ℕ} {at : ℕ} → at ≡ peerAt p → at + 38 ≤ length numbers
+pub fresh-step : (n0 : List ℕ) (p : ℕ) {numbers words : List ℕ} {at : ℕ} → at ≡ peerAt p → at + peerWords ≤ length numbers
     → numbers ≡ put n0 1 (freshPeers p) → words ≡ freshPeers 1
-    → take at numbers ++ (words ++ drop (at + 38 - at) (drop at numbers)) ≡ put n0 1 (freshPeers (p + 1))
+    → take at numbers ++ (words ++ drop (at + peerWords - at) (drop at numbers)) ≡ put n0 1 (freshPeers (p + 1))
 fresh-step n0 p {numbers} {words} {at} e h f g =
     let l = length-fresh p in
     let q : at ≡ 1 + length (freshPeers p) = omega arith in
-    part-back at 38 numbers words
-    ∙ splice-put at 38 numbers words h (ap (λ (w : List ℕ). length w) g ∙ length-fresh 1)
+    part-back at peerWords numbers words
+    ∙ splice-put at peerWords numbers words h (ap (λ (w : List ℕ). length w) g ∙ length-fresh 1)
     ∙ rw (f, g) (put-put n0 1 (freshPeers p) (freshPeers 1) at q ∙ rw (fresh-next p, add-one p))
 
 pub fresh-all : (n0 : List ℕ) (p n : ℕ) {numbers : List ℕ} → p ≤ n → n ≤ p → numbers ≡ put n0 1 (freshPeers p) → numbers ≡ put n0 1 (freshPeers n)
@@ -76,11 +77,11 @@ put-second : (xs : List ℕ) (y : ℕ) (ys : List ℕ) → put (set xs 0 y) 1 ys
 unfolding put
 put-second xs y ys = refl
 
-pub fresh-clock : (n0 : List ℕ) (n : ℕ) {numbers : List ℕ} → 1 + 38 * n ≤ length n0 → numbers ≡ put (set n0 0 1) 1 (freshPeers n)
-    → numbers ≡ (1 ∷ freshPeers n) ++ drop (1 + 38 * n) n0
+pub fresh-clock : (n0 : List ℕ) (n : ℕ) {numbers : List ℕ} → peerAt n ≤ length n0 → numbers ≡ put (set n0 0 1) 1 (freshPeers n)
+    → numbers ≡ (1 ∷ freshPeers n) ++ drop (peerAt n) n0
 fresh-clock n0 n m f =
     let l = length-fresh n in
-    let c : length (1 ∷ freshPeers n) ≡ 1 + 38 * n = omega arith in
+    let c : length (1 ∷ freshPeers n) ≡ peerAt n = omega arith in
     f ∙ put-second n0 1 (freshPeers n) ∙ put-front n0 (1 ∷ freshPeers n) (omega arith) ∙ ap (λ (k : ℕ). (1 ∷ freshPeers n) ++ drop k n0) c
 
 -- and all of a table

@@ -1,13 +1,29 @@
--- The law of a record that is dropped.
+-- The laws of the record that a call finds, and of one that is dropped.
 -- Assumes nothing.
 use Prim.Native.Nat.{ℕ, _+_}
 use mathlib.Core.List.{List}
-use mathlib.Core.Option.{some}
-use mathlib.Core.Path.{_≡_}
+use mathlib.Core.Option.{Option, some}
+use mathlib.Core.Path.{_≡_, refl, sym, ap, _∙_}
 use lib.ListN.{set}
-use Rattle.seven_bit.specs.Reply.{granted}
-use Rattle.pe_reassembler.specs.Calls.{numbered, closeOpen, openCount, dropAt}
-use Rattle.pe_reassembler.specs.Table.{peerAt}
+use Rattle.seven_bit.specs.Reply.{Reply, granted, _else_then_}
+use Rattle.seven_bit.proofs.ReplyLaws.{same-grant, asked}
+use Rattle.pe_reassembler.specs.declared.calls.Found.{Found}
+use Rattle.pe_reassembler.specs.declared.shape.Shape.{Shape}
+use Rattle.pe_reassembler.specs.Calls.{findPeer, foundTold, numbered, closeOpen, openCount, dropAt}
+use Rattle.pe_reassembler.specs.Table.{HasPeer, hasNumbers, isMuid, peerAt, recordOf}
+use Rattle.pe_reassembler.proofs.TableLaws.{record-in}
+
+-- what was found, taken apart
+pub found-as : {r q : Found} {o : Reply (Option ℕ)} → foundTold r ≡ o → r ≡ q → o ≡ foundTold q
+found-as e f = sym e ∙ ap foundTold f
+
+-- a record that was found lies in the numbers
+pub found-in : (shape : Shape) (numbers : List ℕ) (peer p : ℕ) → findPeer shape numbers peer ≡ granted (some p) → HasPeer numbers p
+found-in shape numbers peer p e =
+    let shaped = asked (hasNumbers shape numbers) 30 (isMuid peer else 28 then granted (recordOf shape numbers peer)) (some p) e in
+    let within = asked (isMuid peer) 28 (granted (recordOf shape numbers peer)) (some p) (shaped .1) in
+    let found : recordOf shape numbers peer ≡ some p = same-grant (granted (recordOf shape numbers peer)) (recordOf shape numbers peer) (some p) refl (within .1) in
+    record-in shape numbers peer p (shaped .0) found
 
 -- counted, closed one after the other, and unbound
 pub drop-all : (p : ℕ) (n0 : List ℕ) {n1 n2 n3 n4 : List ℕ} {at count : ℕ} → count ≡ openCount n0 p 0 + openCount n0 p 1 + openCount n0 p 2 + openCount n0 p 3

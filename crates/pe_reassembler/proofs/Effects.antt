@@ -14,6 +14,7 @@ use Rattle.seven_bit.specs.Parts.{splice}
 use Rattle.seven_bit.proofs.PartLaws.{part-splice}
 use Rattle.seven_bit.proofs.ReplyLaws.{both, and-told}
 use Rattle.pe_slot.specs.Feed.{SlotLeft}
+use Rattle.pe_slot.specs.Layout.{slotWords}
 use Rattle.pe_reassembler.specs.declared.shape.Shape.{Shape}
 use Rattle.pe_reassembler.specs.Feed.{Memory, nextTick, bind, wordsPart, roomPart, lifted}
 use Rattle.pe_reassembler.specs.Table.{hasRooms, numbersLen, roomsLen, peerAt, slotAt, roomAt, isBound, boundTo}
@@ -43,7 +44,7 @@ rooms-told shape numbers index headers arenas e =
 
 -- what a slot left fits in its place
 pub record Sized (shape : Shape) (a : SlotLeft) : Type 0 where
-  pub nine : length (a .words) ≡ 9
+  pub nine : length (a .words) ≡ slotWords
   pub records : length (a .index) ≡ shape .«fragment_records»
   pub header-bytes : length (a .header) ≡ shape .«header_bytes»
   pub tx-bytes : length (a .arena) ≡ shape .«tx_bytes»
@@ -117,7 +118,7 @@ module _ (size n p s : ℕ) (xs ys : List ℕ) (h : 4 * n * size ≤ length xs) 
   room-length = only-splice (roomAt size p s) size xs ys within e .long
 
 -- the clock and the binding, then the words of a slot in their place
-module _ (n p s : ℕ) (numbers words : List ℕ) (tick peer : ℕ) (h : 1 + 38 * n ≤ length numbers) (e : length words ≡ 9) (k : p < n) (l : s < 4) where
+module _ (n p s : ℕ) (numbers words : List ℕ) (tick peer : ℕ) (h : peerAt n ≤ length numbers) (e : length words ≡ slotWords) (k : p < n) (l : s < 4) where
   abbrev clocked : List ℕ
   clocked = set numbers 0 tick
 
@@ -125,7 +126,7 @@ module _ (n p s : ℕ) (numbers words : List ℕ) (tick peer : ℕ) (h : 1 + 38 
   bound = bind clocked peer p
 
   abbrev stored : List ℕ
-  stored = splice (slotAt p s) 9 bound words
+  stored = splice (slotAt p s) slotWords bound words
 
   clocked-only : OnlyAt 0 1 numbers clocked
   clocked-only = only-set 0 tick numbers
@@ -136,23 +137,23 @@ module _ (n p s : ℕ) (numbers words : List ℕ) (tick peer : ℕ) (h : 1 + 38 
   bound-long : length bound ≡ length numbers
   bound-long = bound-only .long ∙ clocked-only .long
 
-  words-in : slotAt p s + 9 ≤ length bound
+  words-in : slotAt p s + slotWords ≤ length bound
   words-in = let b = bound-long in omega arith
 
-  stored-only : OnlyAt (slotAt p s) 9 bound stored
-  stored-only = only-splice (slotAt p s) 9 bound words words-in e
+  stored-only : OnlyAt (slotAt p s) slotWords bound stored
+  stored-only = only-splice (slotAt p s) slotWords bound words words-in e
 
   stored-long : length stored ≡ length numbers
   stored-long = stored-only .long ∙ bound-long
 
   stored-own : wordsPart stored p s ≡ words
-  stored-own = part-splice (slotAt p s) 9 bound words words-in e
+  stored-own = part-splice (slotAt p s) slotWords bound words words-in e
 
   stored-other : (q t : ℕ) → t < 4 → (q ≡ p → t ≡ s → ⊥) → wordsPart stored q t ≡ wordsPart numbers q t
   stored-other q t g d =
-      stored-only .parts (slotAt q t) 9 (words-apart p s q t l g (other-place p s q t l g d))
-      ∙ bound-only .parts (slotAt q t) 9 (peer-apart p q t g)
-      ∙ clocked-only .parts (slotAt q t) 9 (inr (omega arith))
+      stored-only .parts (slotAt q t) slotWords (words-apart p s q t l g (other-place p s q t l g d))
+      ∙ bound-only .parts (slotAt q t) slotWords (peer-apart p q t g)
+      ∙ clocked-only .parts (slotAt q t) slotWords (inr (omega arith))
 
   peer-in : peerAt p + 1 < length clocked
   peer-in = let b = clocked-only .long in omega arith

@@ -16,6 +16,7 @@ use Rattle.seven_bit.proofs.PartLaws.{part-splice}
 use Rattle.seven_bit.proofs.ReplyLaws.{both}
 use Rattle.pe_slot.specs.Feed.{closedSlot}
 use Rattle.pe_slot.specs.Memory.{slotOf, wordsOf}
+use Rattle.pe_slot.specs.Layout.{slotWords}
 use Rattle.pe_reassembler.specs.declared.shape.Shape.{Shape}
 use Rattle.pe_reassembler.specs.Calls.{closeAt, closeOpen, dropAt}
 use Rattle.pe_reassembler.specs.Feed.{wordsPart}
@@ -36,13 +37,13 @@ peers-same xs = record { long = refl; clock = refl; heads = λ (q i : ℕ) (h : 
 peers-then : {xs ys zs : List ℕ} → PeersKept xs ys → PeersKept ys zs → PeersKept xs zs
 peers-then a b = record { long = b .long ∙ a .long; clock = b .clock ∙ a .clock; heads = λ (q i : ℕ) (h : i < 2). b .heads q i h ∙ a .heads q i h }
 
-peers-of-only : (p s : ℕ) {xs ys : List ℕ} → s < 4 → OnlyAt (slotAt p s) 9 xs ys → PeersKept xs ys
+peers-of-only : (p s : ℕ) {xs ys : List ℕ} → s < 4 → OnlyAt (slotAt p s) slotWords xs ys → PeersKept xs ys
 peers-of-only p s {xs} {ys} l o = record { long = o .long; clock = only-get o 0 (inl (omega arith)); heads = λ (q i : ℕ) (h : i < 2). only-get o (peerAt q + i) (go q i h) }
   where
-    go : (q i : ℕ) → i < 2 → Apart (slotAt p s) 9 (peerAt q + i) 1
+    go : (q i : ℕ) → i < 2 → Apart (slotAt p s) slotWords (peerAt q + i) 1
     go q i h = side (less-or p q)
       where
-        side : (p < q) ⊎ (q ≤ p) → Apart (slotAt p s) 9 (peerAt q + i) 1
+        side : (p < q) ⊎ (q ≤ p) → Apart (slotAt p s) slotWords (peerAt q + i) 1
         side (inl a) = inr (omega arith)
         side (inr a) = inl (omega arith)
 
@@ -53,14 +54,14 @@ peers-told xs ys k q = peer-by xs ys q (k .heads q)
 abbrev shutWords : List ℕ → List ℕ
 shutWords w = wordsOf (closedSlot (slotOf w))
 
-module _ (p s : ℕ) (numbers : List ℕ) (h : slotAt p s + 9 ≤ length numbers) where
-  close-only : OnlyAt (slotAt p s) 9 numbers (closeAt p s numbers)
+module _ (p s : ℕ) (numbers : List ℕ) (h : slotAt p s + slotWords ≤ length numbers) where
+  close-only : OnlyAt (slotAt p s) slotWords numbers (closeAt p s numbers)
   unfolding closeAt
-  close-only = only-splice (slotAt p s) 9 numbers (shutWords (wordsPart numbers p s)) h refl
+  close-only = only-splice (slotAt p s) slotWords numbers (shutWords (wordsPart numbers p s)) h refl
 
   close-own : wordsPart (closeAt p s numbers) p s ≡ shutWords (wordsPart numbers p s)
   unfolding closeAt
-  close-own = part-splice (slotAt p s) 9 numbers (shutWords (wordsPart numbers p s)) h refl
+  close-own = part-splice (slotAt p s) slotWords numbers (shutWords (wordsPart numbers p s)) h refl
 
 -- ---- those of the k slots from place i on whose words a test takes are closed
 record Shut (test : List ℕ → Bool) (i k : ℕ) (xs ys : List ℕ) : Type 0 where
@@ -77,7 +78,7 @@ module _ (test : List ℕ → Bool) where
         other = λ (q t : ℕ) (h : t < 4) (a : (4 * q + t < i) ⊎ (i + 0 ≤ 4 * q + t)). refl;
       }
 
-  shut-one : (p s : ℕ) (xs : List ℕ) → s < 4 → slotAt p s + 9 ≤ length xs → (b : Bool) → test (wordsPart xs p s) ≡ b → Shut test (4 * p + s) 1 xs (cond b (closeAt p s xs) xs)
+  shut-one : (p s : ℕ) (xs : List ℕ) → s < 4 → slotAt p s + slotWords ≤ length xs → (b : Bool) → test (wordsPart xs p s) ≡ b → Shut test (4 * p + s) 1 xs (cond b (closeAt p s xs) xs)
   shut-one p s xs l h true e =
       record { peers = peers-of-only p s l (close-only p s xs h); own = own; other = other }
     where
@@ -89,8 +90,8 @@ module _ (test : List ℕ → Bool) where
           rw (eq, et, e) (close-own p s xs h)
 
       other : (q t : ℕ) → t < 4 → (4 * q + t < 4 * p + s) ⊎ (4 * p + s + 1 ≤ 4 * q + t) → wordsPart (closeAt p s xs) q t ≡ wordsPart xs q t
-      other q t g (inl a) = close-only p s xs h .parts (slotAt q t) 9 (words-apart p s q t l g (inl a))
-      other q t g (inr a) = close-only p s xs h .parts (slotAt q t) 9 (words-apart p s q t l g (inr (omega arith)))
+      other q t g (inl a) = close-only p s xs h .parts (slotAt q t) slotWords (words-apart p s q t l g (inl a))
+      other q t g (inr a) = close-only p s xs h .parts (slotAt q t) slotWords (words-apart p s q t l g (inr (omega arith)))
   shut-one p s xs l h false e = record { peers = peers-same xs; own = own; other = λ (q t : ℕ) (g : t < 4) (a : _). refl }
     where
       own : (q t : ℕ) → t < 4 → 4 * p + s ≤ 4 * q + t → 4 * q + t < 4 * p + s + 1
@@ -118,8 +119,8 @@ module _ (test : List ℕ → Bool) where
       other q t g (inr c) = b .other q t g (inr (omega arith)) ∙ a .other q t g (inr (omega arith))
 
 -- ---- the tests, of a slot's words
-word-of : (numbers : List ℕ) (p s i : ℕ) → i < 9 → getD numbers (slotAt p s + i) 0 ≡ getD (wordsPart numbers p s) i 0
-word-of numbers p s i h = sym (get-part (slotAt p s) 9 i numbers h)
+word-of : (numbers : List ℕ) (p s i : ℕ) → i < slotWords → getD numbers (slotAt p s + i) 0 ≡ getD (wordsPart numbers p s) i 0
+word-of numbers p s i h = sym (get-part (slotAt p s) slotWords i numbers h)
 
 abbrev openWords : List ℕ → Bool
 openWords w = not (eqb (getD w 0 0) 0)
@@ -137,7 +138,7 @@ unfolding isDue
 due-of numbers now-ms p s = rw (active-of numbers p s, word-of numbers p s 2 (omega arith))
 
 -- ---- all that are due
-shut-due : (now-ms n k p s : ℕ) (xs : List ℕ) → s < 4 → 4 * p + s + k ≤ 4 * n → 1 + 38 * n ≤ length xs → Shut (dueWords now-ms) (4 * p + s) k xs (closeDue now-ms p s k xs)
+shut-due : (now-ms n k p s : ℕ) (xs : List ℕ) → s < 4 → 4 * p + s + k ≤ 4 * n → peerAt n ≤ length xs → Shut (dueWords now-ms) (4 * p + s) k xs (closeDue now-ms p s k xs)
 unfolding closeDue
 shut-due now-ms n zero p s xs l g h = shut-none (dueWords now-ms) (4 * p + s) xs
 shut-due now-ms n (suc k) p s xs l g h = go (both (leb 3 s)) (shut-due now-ms n k)
@@ -149,7 +150,7 @@ shut-due now-ms n (suc k) p s xs l g h = go (both (leb 3 s)) (shut-due now-ms n 
     one = shut-one (dueWords now-ms) p s xs l (omega arith) (isDue xs now-ms p s) (sym (due-of xs now-ms p s))
 
     go : (leb 3 s ≡ true) ⊎ (leb 3 s ≡ false)
-        → ((q t : ℕ) (ys : List ℕ) → t < 4 → 4 * q + t + k ≤ 4 * n → 1 + 38 * n ≤ length ys → Shut (dueWords now-ms) (4 * q + t) k ys (closeDue now-ms q t k ys))
+        → ((q t : ℕ) (ys : List ℕ) → t < 4 → 4 * q + t + k ≤ 4 * n → peerAt n ≤ length ys → Shut (dueWords now-ms) (4 * q + t) k ys (closeDue now-ms q t k ys))
         → Shut (dueWords now-ms) (4 * p + s) (suc k) xs
         (cond (leb 3 s) (closeDue now-ms (p + 1) 0 k (cond (isDue xs now-ms p s) (closeAt p s xs) xs)) (closeDue now-ms p (s + 1) k (cond (isDue xs now-ms p s) (closeAt p s xs) xs)))
     go (inl e) next =
@@ -167,14 +168,14 @@ shut-due now-ms n (suc k) p s xs l g h = go (both (leb 3 s)) (shut-due now-ms n 
 module _ (shape : Shape) (numbers : List ℕ) (h : numbersLen shape ≤ length numbers) where
   -- slot s of record p closed
   module _ (p s : ℕ) (k : p < shape .«max_peers») (l : s < 4) where
-    slot-in : slotAt p s + 9 ≤ length numbers
+    slot-in : slotAt p s + slotWords ≤ length numbers
     slot-in = omega arith
 
     pub close-words : wordsPart (closeAt p s numbers) p s ≡ wordsOf (closedSlot (slotOf (wordsPart numbers p s)))
     close-words = close-own p s numbers slot-in
 
     pub close-words-other : (q t : ℕ) → q < shape .«max_peers» → t < 4 → (q ≡ p → t ≡ s → ⊥) → wordsPart (closeAt p s numbers) q t ≡ wordsPart numbers q t
-    close-words-other q t b g d = close-only p s numbers slot-in .parts (slotAt q t) 9 (words-apart p s q t l g (other-place p s q t l g d))
+    close-words-other q t b g d = close-only p s numbers slot-in .parts (slotAt q t) slotWords (words-apart p s q t l g (other-place p s q t l g d))
 
     close-peers : PeersKept numbers (closeAt p s numbers)
     close-peers = peers-of-only p s l (close-only p s numbers slot-in)
@@ -194,7 +195,7 @@ module _ (shape : Shape) (numbers : List ℕ) (h : numbersLen shape ≤ length n
     unbind-only = only-set (peerAt p) 0 numbers
 
     pub unbind-words : (q t : ℕ) → q < shape .«max_peers» → t < 4 → wordsPart (set numbers (peerAt p) 0) q t ≡ wordsPart numbers q t
-    unbind-words q t b g = only-wider (peerAt p) 2 unbind-only (omega arith) (omega arith) .parts (slotAt q t) 9 (peer-apart p q t g)
+    unbind-words q t b g = only-wider (peerAt p) 2 unbind-only (omega arith) (omega arith) .parts (slotAt q t) slotWords (peer-apart p q t g)
 
     pub unbind-bound : isBound (set numbers (peerAt p) 0) p ≡ false
     unfolding isBound

@@ -8,24 +8,25 @@ use native.Mathlib.Omega.{arith}
 use lib.ListN.{length, getD, take, drop, replicate, length-append, length-drop, length-replicate, replicate-append-replicate}
 use lib.Seq.{drop-drop, drop-at, take-at}
 use Rattle.seven_bit.specs.Parts.{part}
+use Rattle.pe_slot.specs.Layout.{slotWords}
 use Rattle.pe_reassembler.specs.declared.shape.Shape.{Shape}
 use Rattle.pe_reassembler.specs.Calls.{freshPeers, newCall}
 use Rattle.pe_reassembler.specs.Feed.{wordsPart, roomPart}
-use Rattle.pe_reassembler.specs.Table.{hasRooms, numbersLen, roomsLen, peerAt, slotAt, roomAt, isBound}
+use Rattle.pe_reassembler.specs.Table.{hasRooms, numbersLen, roomsLen, peerAt, slotAt, roomAt, isBound, peerWords}
 use Rattle.pe_reassembler.proofs.CallsFresh.{length-fresh}
 use Rattle.pe_reassembler.proofs.Effects.{rooms-told}
 use Rattle.pe_reassembler.proofs.FeedLaws.{room-in}
 use Rattle.pe_reassembler.proofs.PlaceLaws.{part-part, get-part}
 
--- the 38 words of one peer among those of all
-fresh-part : (n p : ℕ) (rest : List ℕ) → p < n → part (38 * p) 38 (freshPeers n ++ rest) ≡ freshPeers 1
+-- the words of one peer among those of all
+fresh-part : (n p : ℕ) (rest : List ℕ) → p < n → part (peerWords * p) peerWords (freshPeers n ++ rest) ≡ freshPeers 1
 unfolding freshPeers
 fresh-part zero p rest h = absurd (omega arith)
 fresh-part (suc n) zero rest h = refl
 fresh-part (suc n) (suc p) rest h =
-    let e : 38 * suc p ≡ 38 + 38 * p = omega arith in
-    ap (λ (i : ℕ). part i 38 (freshPeers (suc n) ++ rest)) e
-    ∙ ap (λ (l : List ℕ). take 38 l) (sym (drop-drop (38 * p) 38 (freshPeers (suc n) ++ rest)))
+    let e : peerWords * suc p ≡ peerWords + peerWords * p = omega arith in
+    ap (λ (i : ℕ). part i peerWords (freshPeers (suc n) ++ rest)) e
+    ∙ ap (λ (l : List ℕ). take peerWords l) (sym (drop-drop (peerWords * p) peerWords (freshPeers (suc n) ++ rest)))
     ∙ fresh-part n p rest (omega arith)
 
 -- a part of a list of zeros
@@ -64,29 +65,29 @@ module _ (shape : Shape) (numbers index headers arenas : List ℕ) (h : hasRooms
       let r = rooms-told shape numbers index headers arenas h .numbers-long in
       simp (length-append, length-drop) (omega arith)
 
-  peer-part : (p : ℕ) → p < n → part (peerAt p) 38 (newCall shape numbers index headers arenas .numbers) ≡ freshPeers 1
+  peer-part : (p : ℕ) → p < n → part (peerAt p) peerWords (newCall shape numbers index headers arenas .numbers) ≡ freshPeers 1
   peer-part p k =
-      ap (λ (l : List ℕ). part (peerAt p) 38 l) made-numbers
-      ∙ ap (λ (l : List ℕ). take 38 l) (sym (drop-drop (38 * p) 1 ((1 ∷ freshPeers n) ++ drop (numbersLen shape) numbers)))
+      ap (λ (l : List ℕ). part (peerAt p) peerWords l) made-numbers
+      ∙ ap (λ (l : List ℕ). take peerWords l) (sym (drop-drop (peerWords * p) 1 ((1 ∷ freshPeers n) ++ drop (numbersLen shape) numbers)))
       ∙ fresh-part n p (drop (numbersLen shape) numbers) k
 
   new-long : length (newCall shape numbers index headers arenas .numbers) ≡ length numbers
   new-long = ap length made-numbers ∙ numbers-length
 
-  in-peer : (p i : ℕ) → p < n → i < 38 → getD (newCall shape numbers index headers arenas .numbers) (peerAt p + i) 0 ≡ getD (freshPeers 1) i 0
+  in-peer : (p i : ℕ) → p < n → i < peerWords → getD (newCall shape numbers index headers arenas .numbers) (peerAt p + i) 0 ≡ getD (freshPeers 1) i 0
   in-peer p i k l =
-      sym (get-part (peerAt p) 38 i (newCall shape numbers index headers arenas .numbers) l) ∙ ap (λ (w : List ℕ). getD w i 0) (peer-part p k)
+      sym (get-part (peerAt p) peerWords i (newCall shape numbers index headers arenas .numbers) l) ∙ ap (λ (w : List ℕ). getD w i 0) (peer-part p k)
 
-  pub new-words : (p s : ℕ) → p < n → s < 4 → wordsPart (newCall shape numbers index headers arenas .numbers) p s ≡ replicate 9 0
+  pub new-words : (p s : ℕ) → p < n → s < 4 → wordsPart (newCall shape numbers index headers arenas .numbers) p s ≡ replicate slotWords 0
   unfolding freshPeers
   new-words p s k l =
-      let e : slotAt p s ≡ peerAt p + (2 + 9 * s) = omega arith in
+      let e : slotAt p s ≡ peerAt p + (2 + slotWords * s) = omega arith in
       let m = rooms-told shape numbers index headers arenas h .numbers-long in
-      ap (λ (i : ℕ). part i 9 (newCall shape numbers index headers arenas .numbers)) e
-      ∙ sym (part-part (2 + 9 * s) 9 (peerAt p) 38 (newCall shape numbers index headers arenas .numbers) (omega arith) (omega (arith, new-long)))
-      ∙ ap (λ (w : List ℕ). part (2 + 9 * s) 9 w) (peer-part p k)
-      ∙ sym (part-part (9 * s) 9 2 36 (freshPeers 1) (omega arith) (omega arith))
-      ∙ zeros-part (9 * s) 9 36 (freshPeers 0) (omega arith)
+      ap (λ (i : ℕ). part i slotWords (newCall shape numbers index headers arenas .numbers)) e
+      ∙ sym (part-part (2 + slotWords * s) slotWords (peerAt p) peerWords (newCall shape numbers index headers arenas .numbers) (omega arith) (omega (arith, new-long)))
+      ∙ ap (λ (w : List ℕ). part (2 + slotWords * s) slotWords w) (peer-part p k)
+      ∙ sym (part-part (slotWords * s) slotWords 2 (4 * slotWords) (freshPeers 1) (omega arith) (omega arith))
+      ∙ zeros-part (slotWords * s) slotWords (4 * slotWords) (freshPeers 0) (omega arith)
 
   pub new-bound : (p : ℕ) → p < n → isBound (newCall shape numbers index headers arenas .numbers) p ≡ false
   unfolding isBound freshPeers

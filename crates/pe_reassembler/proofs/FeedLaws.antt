@@ -16,6 +16,8 @@ use Rattle.seven_bit.specs.Parts.{part, splice}
 use Rattle.seven_bit.specs.Reply.{Reply, granted, refused}
 use Rattle.seven_bit.proofs.PartLaws.{length-part}
 use Rattle.seven_bit.proofs.ReplyLaws.{both, first-granted, and-told}
+use Rattle.midici_core.specs.declared.error.CiError.{CiError}
+use Rattle.midici_core.specs.Errors.{ciNumber}
 use Rattle.midici_core.specs.Header.{readHeader}
 use Rattle.midici_core.specs.declared.pe_msg.MessageRead.{MessageRead}
 use Rattle.midici_core.specs.Message.{Message, readMessage, messageTold}
@@ -27,10 +29,11 @@ use Rattle.pe_wire.proofs.RoundTrip.{read-small}
 use Rattle.pe_slot.specs.Slot.{Slot, Verdict, stays, closing, _otherwise_then_, storing, taking, held, bodyLen, headerFits, headerAgrees, newHeader, countAgrees, newCount, afterChunk, passed, judge}
 use Rattle.pe_slot.specs.Memory.{slotOf, isSound}
 use Rattle.pe_slot.specs.Feed.{Told, toldAnswer, SlotLeft, slotLeft, placed, isShaped, reachedSlot, feedSlot}
+use Rattle.pe_slot.specs.Layout.{slotWords}
 use Rattle.pe_reassembler.specs.declared.shape.Shape.{Shape}
-use Rattle.pe_reassembler.specs.Table.{hasNumbers, hasRooms, isBound, boundTo, peerAt, slotAt, roomAt, roomsLen, recordFor}
-use Rattle.pe_reassembler.specs.Feed.{Memory, memory, Fed, fed, nextTick, bind, hasAll, lifted, reach, wordsPart, roomPart}
-use Rattle.pe_reassembler.specs.Steps.{isDamaged, noted, spliced}
+use Rattle.pe_reassembler.specs.Table.{hasNumbers, hasRooms, isBound, boundTo, peerAt, slotAt, roomAt, roomsLen, recordFor, peerWords, HasPeer}
+use Rattle.pe_reassembler.specs.Feed.{Memory, memory, FeedLeft, feedLeft, nextTick, bind, hasAll, lifted, reach, wordsPart, roomPart}
+use Rattle.pe_reassembler.specs.Steps.{isDamaged, noted, inPlace, slotFed}
 use Rattle.pe_reassembler.proofs.TableClose.{part-lent, part-back}
 use Rattle.pe_reassembler.proofs.TableLaws.{Ranges, in-range, numbers-long, record-for-below}
 
@@ -90,30 +93,30 @@ module _ (a k i : ℕ) (xs ys : List ℕ) (l : i < a) (h : a ≤ length xs) wher
 
 -- the clock and the binding stand before every slot of their record
 module _ (words : List ℕ) (peer p s : ℕ) where
-  bind-splice : (numbers : List ℕ) → 39 + 38 * p ≤ length numbers → s < 4
-      → bind (splice (slotAt p s) 9 numbers words) peer p ≡ splice (slotAt p s) 9 (bind numbers peer p) words
+  bind-splice : (numbers : List ℕ) → peerAt p + peerWords ≤ length numbers → s < 4
+      → bind (splice (slotAt p s) slotWords numbers words) peer p ≡ splice (slotAt p s) slotWords (bind numbers peer p) words
   unfolding bind boundTo isBound
   bind-splice numbers h k =
       let l : peerAt p < slotAt p s = omega arith in
       let n : peerAt p + 1 < slotAt p s = omega arith in
       let m : slotAt p s ≤ length numbers = omega arith in
       let m′ : slotAt p s ≤ length (set numbers (peerAt p) 1) = rw (length-set numbers (peerAt p) 1) m in
-      rw (splice-get (slotAt p s) 9 (peerAt p) numbers words l m, splice-get (slotAt p s) 9 (peerAt p + 1) numbers words n m)
+      rw (splice-get (slotAt p s) slotWords (peerAt p) numbers words l m, splice-get (slotAt p s) slotWords (peerAt p + 1) numbers words n m)
       (go (boundTo numbers peer p) _ _
-      (ap (λ (x : List ℕ). set x (peerAt p + 1) peer) (splice-set (slotAt p s) 9 (peerAt p) numbers words l m 1)
-      ∙ splice-set (slotAt p s) 9 (peerAt p + 1) (set numbers (peerAt p) 1) words n m′ peer))
+      (ap (λ (x : List ℕ). set x (peerAt p + 1) peer) (splice-set (slotAt p s) slotWords (peerAt p) numbers words l m 1)
+      ∙ splice-set (slotAt p s) slotWords (peerAt p + 1) (set numbers (peerAt p) 1) words n m′ peer))
     where
-      go : (b : Bool) (x y : List ℕ) → x ≡ splice (slotAt p s) 9 y words
-          → cond b (splice (slotAt p s) 9 numbers words) x ≡ splice (slotAt p s) 9 (cond b numbers y) words
+      go : (b : Bool) (x y : List ℕ) → x ≡ splice (slotAt p s) slotWords y words
+          → cond b (splice (slotAt p s) slotWords numbers words) x ≡ splice (slotAt p s) slotWords (cond b numbers y) words
       go true x y e = refl
       go false x y e = e
 
-  noted-splice : (numbers : List ℕ) (tick : ℕ) → 39 + 38 * p ≤ length numbers → s < 4
-      → bind (set (splice (slotAt p s) 9 numbers words) 0 tick) peer p ≡ splice (slotAt p s) 9 (bind (set numbers 0 tick) peer p) words
+  noted-splice : (numbers : List ℕ) (tick : ℕ) → peerAt p + peerWords ≤ length numbers → s < 4
+      → bind (set (splice (slotAt p s) slotWords numbers words) 0 tick) peer p ≡ splice (slotAt p s) slotWords (bind (set numbers 0 tick) peer p) words
   noted-splice numbers tick h k =
       let l : 0 < slotAt p s = omega arith in
       let m : slotAt p s ≤ length numbers = omega arith in
-      ap (λ (x : List ℕ). bind x peer p) (splice-set (slotAt p s) 9 0 numbers words l m tick)
+      ap (λ (x : List ℕ). bind x peer p) (splice-set (slotAt p s) slotWords 0 numbers words l m tick)
       ∙ bind-splice (set numbers 0 tick) (rw (length-set numbers 0 tick) h) k
 
 -- binding keeps the length
@@ -149,10 +152,21 @@ judge-clear H B R s c =
     (ltb (length (s .pieces)) R) (leb (bodyLen (s .pieces) + length (c .property)) B) (newHeader s c) (newCount s c)
     (afterChunk s c (newHeader s c) (newCount s c) true)
 
+-- and no refusal of the CI reader is
+pub ci-clear : (e : CiError) → eqb (ciNumber e) 31 ≡ false
+ci-clear CiError.Truncated = refl
+ci-clear CiError.NotUniversalSysex = refl
+ci-clear CiError.NotMidiCi = refl
+ci-clear (CiError.UnsupportedSubId2 kind) = refl
+ci-clear CiError.BadLength = refl
+ci-clear CiError.BadField = refl
+ci-clear CiError.BufferTooSmall = refl
+ci-clear CiError.InvalidMuid = refl
+
 -- a whole memory after a slot's answer, then the clock and the binding
-abbrev noting : ℕ → ℕ → ℕ → Fed → Fed
+abbrev noting : ℕ → ℕ → ℕ → FeedLeft → FeedLeft
 noting tick peer p f =
-    fed (f .answer)
+    feedLeft (f .answer)
     (memory (noted (f .answer) (f .memory .numbers) tick peer p) (f .memory .index) (f .memory .headers) (f .memory .arenas) (f .memory .out-header) (f .memory .out-body))
 
 module _ (words index header arena : List ℕ) (c : Chunk) (now-ms tick : ℕ) (out-header out-body : List ℕ)
@@ -167,7 +181,7 @@ module _ (words index header arena : List ℕ) (c : Chunk) (now-ms tick : ℕ) (
   unfolding feedSlot
   fed-reached y l = rw (h, y, le-leb _ _ l)
 
-shaped : (words index header arena out-header out-body : List ℕ) → length words ≡ 9 → length index ≤ 2048 → length header ≤ 4096 → length arena ≤ 65536
+shaped : (words index header arena out-header out-body : List ℕ) → length words ≡ slotWords → length index ≤ 2048 → length header ≤ 4096 → length arena ≤ 65536
     → length header ≤ length out-header → length arena ≤ length out-body → isShaped words index header arena out-header out-body ≡ true
 unfolding isShaped
 shaped words index header arena out-header out-body a b c d e f = rw (eq-eqb _ _ a, le-leb _ _ b, le-leb _ _ c, le-leb _ _ d, le-leb _ _ e, le-leb _ _ f)
@@ -179,7 +193,7 @@ module _ (shape : Shape) (m : Memory) (peer : ℕ) (c : Chunk) (now-ms p s : ℕ
   range : Ranges shape
   range = in-range shape (m .numbers) (all .numbers)
 
-  pub record-long : (p < 16) × (39 + 38 * p ≤ length (m .numbers))
+  pub record-long : HasPeer (m .numbers) p
   record-long = let n = numbers-long shape (m .numbers) (all .numbers) in omega arith
 
   pub index-in : roomAt (shape .«fragment_records») p s + shape .«fragment_records» ≤ length (m .index)
@@ -203,8 +217,8 @@ module _ (shape : Shape) (m : Memory) (peer : ℕ) (c : Chunk) (now-ms p s : ℕ
   abbrev arena : List ℕ
   arena = roomPart (shape .«tx_bytes») (m .arenas) p s
 
-  words-len : length words ≡ 9
-  words-len = let r = record-long in length-part (slotAt p s) 9 (m .numbers) (omega arith)
+  words-len : length words ≡ slotWords
+  words-len = let r = record-long in length-part (slotAt p s) slotWords (m .numbers) (omega arith)
 
   records-len : length records ≡ shape .«fragment_records»
   records-len = length-part _ _ (m .index) index-in
@@ -223,9 +237,6 @@ module _ (shape : Shape) (m : Memory) (peer : ℕ) (c : Chunk) (now-ms p s : ℕ
   abbrev tick : ℕ
   tick = nextTick (getD (m .numbers) 0 0)
 
-  abbrev slot-fed : SlotLeft
-  slot-fed = feedSlot words records header arena c now-ms tick (m .out-header) (m .out-body)
-
   abbrev slot-reached : SlotLeft
   slot-reached = reachedSlot words records header arena c now-ms tick (m .out-header) (m .out-body)
 
@@ -233,93 +244,89 @@ module _ (shape : Shape) (m : Memory) (peer : ℕ) (c : Chunk) (now-ms p s : ℕ
   unfolding placed
   undamaged = judge-clear _ _ _ _ c
 
-  abbrev in-place : SlotLeft → Fed
-  in-place a =
-      spliced (slotAt p s) (roomAt (shape .«fragment_records») p s) (shape .«fragment_records») (roomAt (shape .«header_bytes») p s) (shape .«header_bytes»)
-      (roomAt (shape .«tx_bytes») p s) (shape .«tx_bytes») m a
-
   abbrev soundness : Bool
   soundness = isSound (shape .«header_bytes») (shape .«tx_bytes») (shape .«fragment_records») (slotOf words) records
 
   same-sound : isSound (length header) (length arena) (length records) (slotOf words) records ≡ soundness
   same-sound = rw (header-len, arena-len, records-len)
 
-  reached-damaged : soundness ≡ false → noting tick peer p (in-place slot-fed) ≡ reach shape m peer c now-ms p s
+  reached-damaged : soundness ≡ false → noting tick peer p (slotFed shape m p s c now-ms tick) ≡ reach shape m peer c now-ms p s
   unfolding reach
   reached-damaged n =
-      ap (λ (a : SlotLeft). noting tick peer p (in-place a)) (damaged words records header arena c now-ms tick (m .out-header) (m .out-body) is-shaped (same-sound ∙ n))
+      ap (λ (a : SlotLeft). noting tick peer p (inPlace shape m p s a)) (damaged words records header arena c now-ms tick (m .out-header) (m .out-body) is-shaped (same-sound ∙ n))
       ∙ rw (
         n,
-        splice-own (slotAt p s) 9 (m .numbers),
+        splice-own (slotAt p s) slotWords (m .numbers),
         splice-own (roomAt (shape .«fragment_records») p s) (shape .«fragment_records») (m .index),
         splice-own (roomAt (shape .«header_bytes») p s) (shape .«header_bytes») (m .headers),
         splice-own (roomAt (shape .«tx_bytes») p s) (shape .«tx_bytes») (m .arenas),
       )
 
-  reached-sound : soundness ≡ true → length (c .property) ≤ 16383 → noting tick peer p (in-place slot-fed) ≡ reach shape m peer c now-ms p s
+  reached-sound : soundness ≡ true → length (c .property) ≤ 16383 → noting tick peer p (slotFed shape m p s c now-ms tick) ≡ reach shape m peer c now-ms p s
   unfolding reach lifted
   reached-sound y h =
       let r = record-long in
-      ap (λ (a : SlotLeft). noting tick peer p (in-place a)) (fed-reached words records header arena c now-ms tick (m .out-header) (m .out-body) is-shaped (same-sound ∙ y) h)
+      ap (λ (a : SlotLeft). noting tick peer p (inPlace shape m p s a)) (fed-reached words records header arena c now-ms tick (m .out-header) (m .out-body) is-shaped (same-sound ∙ y) h)
       ∙ rw (y, undamaged, noted-splice (slot-reached .words) peer p s (m .numbers) tick (r .1) l)
 
-  pub reached : length (c .property) ≤ 16383 → noting tick peer p (in-place slot-fed) ≡ reach shape m peer c now-ms p s
+  pub reached : length (c .property) ≤ 16383 → noting tick peer p (slotFed shape m p s c now-ms tick) ≡ reach shape m peer c now-ms p s
   reached h = go (both soundness)
     where
-      go : (soundness ≡ true) ⊎ (soundness ≡ false) → noting tick peer p (in-place slot-fed) ≡ reach shape m peer c now-ms p s
+      go : (soundness ≡ true) ⊎ (soundness ≡ false) → noting tick peer p (slotFed shape m p s c now-ms tick) ≡ reach shape m peer c now-ms p s
       go (inl y) = reached-sound y h
       go (inr n) = reached-damaged n
 
--- the parts that a slot was lent, back in their places
-pub feed-back : (at index-at records header-at header-bytes arena-at tx-bytes : ℕ) (m : Memory) (c : Chunk) (now-ms tick : ℕ)
-    (answer : Reply Told) (words index header arena out-header out-body : List ℕ)
-    → slotLeft answer words index header arena out-header out-body
-    ≡ feedSlot (take (at + 9 - at) (drop at (m .numbers))) (take (index-at + records - index-at) (drop index-at (m .index)))
-    (take (header-at + header-bytes - header-at) (drop header-at (m .headers))) (take (arena-at + tx-bytes - arena-at) (drop arena-at (m .arenas)))
-    c now-ms tick (m .out-header) (m .out-body)
-    → fed answer
-    (memory
-    (take at (m .numbers) ++ (words ++ drop (at + 9 - at) (drop at (m .numbers))))
-    (take index-at (m .index) ++ (index ++ drop (index-at + records - index-at) (drop index-at (m .index))))
-    (take header-at (m .headers) ++ (header ++ drop (header-at + header-bytes - header-at) (drop header-at (m .headers))))
-    (take arena-at (m .arenas) ++ (arena ++ drop (arena-at + tx-bytes - arena-at) (drop arena-at (m .arenas))))
-    out-header out-body)
-    ≡ spliced at index-at records header-at header-bytes arena-at tx-bytes m
-    (feedSlot (part at 9 (m .numbers)) (part index-at records (m .index)) (part header-at header-bytes (m .headers)) (part arena-at tx-bytes (m .arenas))
-    c now-ms tick (m .out-header) (m .out-body))
-feed-back at index-at records header-at header-bytes arena-at tx-bytes m c now-ms tick answer words index header arena out-header out-body e =
-    rw (
-      part-back at 9 (m .numbers) words,
-      part-back index-at records (m .index) index,
-      part-back header-at header-bytes (m .headers) header,
-      part-back arena-at tx-bytes (m .arenas) arena,
-    )
-    (ap (λ (a : SlotLeft). spliced at index-at records header-at header-bytes arena-at tx-bytes m a)
-    (rw (
-      part-lent at 9 (m .numbers),
-      part-lent index-at records (m .index),
-      part-lent header-at header-bytes (m .headers),
-      part-lent arena-at tx-bytes (m .arenas),
-    ) at e))
-
--- the same with the places that were computed, and the words that were noted
-module _ (shape : Shape) (m : Memory) (peer : ℕ) (c : Chunk) (now-ms p s : ℕ) where
-  pub reached-from : (at index-at header-at arena-at tick : ℕ) (f : Fed) (numbers : List ℕ) → hasAll shape m ≡ true → p < shape .«max_peers» → s < 4 → length (c .property) ≤ 16383
-      → at ≡ slotAt p s → index-at ≡ roomAt (shape .«fragment_records») p s → header-at ≡ roomAt (shape .«header_bytes») p s
-      → arena-at ≡ roomAt (shape .«tx_bytes») p s → tick ≡ nextTick (getD (m .numbers) 0 0)
-      → f ≡ spliced at index-at (shape .«fragment_records») header-at (shape .«header_bytes») arena-at (shape .«tx_bytes») m
-      (feedSlot (part at 9 (m .numbers)) (part index-at (shape .«fragment_records») (m .index)) (part header-at (shape .«header_bytes») (m .headers))
-      (part arena-at (shape .«tx_bytes») (m .arenas)) c now-ms tick (m .out-header) (m .out-body))
-      → numbers ≡ noted (f .answer) (f .memory .numbers) tick peer p
-      → fed (f .answer) (memory numbers (f .memory .index) (f .memory .headers) (f .memory .arenas) (f .memory .out-header) (f .memory .out-body))
+  -- the same with the words that were noted
+  pub reached-from : (tick′ : ℕ) (f : FeedLeft) (numbers : List ℕ) → length (c .property) ≤ 16383 → tick′ ≡ tick → f ≡ slotFed shape m p s c now-ms tick′
+      → numbers ≡ noted (f .answer) (f .memory .numbers) tick′ peer p
+      → feedLeft (f .answer) (memory numbers (f .memory .index) (f .memory .headers) (f .memory .arenas) (f .memory .out-header) (f .memory .out-body))
       ≡ reach shape m peer c now-ms p s
-  reached-from at index-at header-at arena-at tick f numbers e k l h ea ei eh er et ef en =
-      ap (λ (x : List ℕ). fed (f .answer) (memory x (f .memory .index) (f .memory .headers) (f .memory .arenas) (f .memory .out-header) (f .memory .out-body))) en
-      ∙ ap (noting tick peer p) ef ∙ rw (ea, ei, eh, er, et) (reached shape m peer c now-ms p s e k l h)
+  reached-from tick′ f numbers h et ef en =
+      ap (λ (x : List ℕ). feedLeft (f .answer) (memory x (f .memory .index) (f .memory .headers) (f .memory .arenas) (f .memory .out-header) (f .memory .out-body))) en
+      ∙ ap (noting tick′ peer p) ef ∙ rw et (reached h)
+
+-- the parts that a slot was lent, back in their places
+pub feed-back : (shape : Shape) (m : Memory) (p s : ℕ) (c : Chunk) (now-ms tick at index-at header-at arena-at : ℕ)
+    (answer : Reply Told) (words index header arena out-header out-body : List ℕ)
+    → at ≡ slotAt p s → index-at ≡ roomAt (shape .«fragment_records») p s → header-at ≡ roomAt (shape .«header_bytes») p s → arena-at ≡ roomAt (shape .«tx_bytes») p s
+    → slotLeft answer words index header arena out-header out-body
+    ≡ feedSlot (take (at + slotWords - at) (drop at (m .numbers))) (take (index-at + shape .«fragment_records» - index-at) (drop index-at (m .index)))
+    (take (header-at + shape .«header_bytes» - header-at) (drop header-at (m .headers)))
+    (take (arena-at + shape .«tx_bytes» - arena-at) (drop arena-at (m .arenas))) c now-ms tick (m .out-header) (m .out-body)
+    → feedLeft answer
+    (memory
+    (take at (m .numbers) ++ (words ++ drop (at + slotWords - at) (drop at (m .numbers))))
+    (take index-at (m .index) ++ (index ++ drop (index-at + shape .«fragment_records» - index-at) (drop index-at (m .index))))
+    (take header-at (m .headers) ++ (header ++ drop (header-at + shape .«header_bytes» - header-at) (drop header-at (m .headers))))
+    (take arena-at (m .arenas) ++ (arena ++ drop (arena-at + shape .«tx_bytes» - arena-at) (drop arena-at (m .arenas))))
+    out-header out-body)
+    ≡ slotFed shape m p s c now-ms tick
+feed-back shape m p s c now-ms tick at index-at header-at arena-at answer words index header arena out-header out-body ea ei eh er e =
+    rw (
+      part-back at slotWords (m .numbers) words,
+      part-back index-at (shape .«fragment_records») (m .index) index,
+      part-back header-at (shape .«header_bytes») (m .headers) header,
+      part-back arena-at (shape .«tx_bytes») (m .arenas) arena,
+      ea,
+      ei,
+      eh,
+      er,
+    )
+    (ap (λ (a : SlotLeft). inPlace shape m p s a)
+    (rw (
+      part-lent at slotWords (m .numbers),
+      part-lent index-at (shape .«fragment_records») (m .index),
+      part-lent header-at (shape .«header_bytes») (m .headers),
+      part-lent arena-at (shape .«tx_bytes») (m .arenas),
+      ea,
+      ei,
+      eh,
+      er,
+    ) at e))
 
 -- the record that a peer takes lies within the numbers
 pub record-for-in : (shape : Shape) (numbers : List ℕ) (peer p : ℕ) → hasNumbers shape numbers ≡ true → recordFor shape numbers peer ≡ some p
-    → (p < 16) × (39 + 38 * p ≤ length numbers)
+    → HasPeer numbers p
 record-for-in shape numbers peer p e f =
     let l = numbers-long shape numbers e in
     let b = record-for-below shape numbers peer p f in

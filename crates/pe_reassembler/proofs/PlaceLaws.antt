@@ -14,6 +14,7 @@ use lib.Seq.{drop-append-le, take-append-le, take-set-le, drop-set-lt, drop-set-
 use Rattle.seven_bit.specs.Parts.{part, splice}
 use Rattle.seven_bit.proofs.PartLaws.{length-splice, part-front}
 use Rattle.seven_bit.proofs.ReplyLaws.{both}
+use Rattle.pe_slot.specs.Layout.{slotWords}
 use Rattle.pe_reassembler.specs.Table.{peerAt, slotAt, roomAt}
 
 -- one number is less, or the other is at most it
@@ -115,7 +116,7 @@ other-place p s q t h g n = go (less-or (4 * q + t) (4 * p + s)) (less-or (4 * p
     go (inr a) (inl b) = inr b
     go (inr a) (inr b) = absurd (n (omega arith) (omega arith))
 
-pub words-apart : (p s q t : ℕ) → s < 4 → t < 4 → (4 * q + t < 4 * p + s) ⊎ (4 * p + s < 4 * q + t) → Apart (slotAt p s) 9 (slotAt q t) 9
+pub words-apart : (p s q t : ℕ) → s < 4 → t < 4 → (4 * q + t < 4 * p + s) ⊎ (4 * p + s < 4 * q + t) → Apart (slotAt p s) slotWords (slotAt q t) slotWords
 words-apart p s q t h g (inl d) = inl (omega arith)
 words-apart p s q t h g (inr d) = inr (omega arith)
 
@@ -132,9 +133,9 @@ rooms-apart size p s q t (inl d) = inl (before size (4 * q + t) (4 * p + s) d)
 rooms-apart size p s q t (inr d) = inr (before size (4 * p + s) (4 * q + t) d)
 
 -- the two words of a peer, and a slot
-pub peer-apart : (p q t : ℕ) → t < 4 → Apart (peerAt p) 2 (slotAt q t) 9
+pub peer-apart : (p q t : ℕ) → t < 4 → Apart (peerAt p) 2 (slotAt q t) slotWords
 peer-apart p q t h = go (less-or q p)
   where
-    go : (q < p) ⊎ (p ≤ q) → Apart (peerAt p) 2 (slotAt q t) 9
+    go : (q < p) ⊎ (p ≤ q) → Apart (peerAt p) 2 (slotAt q t) slotWords
     go (inl a) = inl (omega arith)
     go (inr a) = inr (omega arith)

@@ -18,6 +18,7 @@ use Rattle.pe_slot.specs.Feed.{SlotLeft, touched, grown, closedSlot, placed, re
 use Rattle.pe_slot.proofs.FeedLaws.{newIndex, newArena, length-kept}
 use Rattle.pe_slot.proofs.FeedTheorems.{Sound, sound-told, opened}
 use Rattle.pe_slot.proofs.JudgeLaws.{Fitting, judge-fitting}
+use Rattle.pe_slot.specs.Layout.{slotWords}
 use Rattle.pe_reassembler.specs.declared.shape.Shape.{Shape}
 use Rattle.pe_reassembler.specs.Feed.{Memory, wordsPart, roomPart}
 use Rattle.pe_reassembler.specs.Table.{hasRooms, slotAt, roomAt}
@@ -26,7 +27,7 @@ use Rattle.pe_reassembler.proofs.FeedLaws.{room-in}
 
 -- a slot's parts as long as they were
 pub record SameLengths (index header arena : List ℕ) (a : SlotLeft) : Type 0 where
-  pub nine : length (a .words) ≡ 9
+  pub nine : length (a .words) ≡ slotWords
   pub records : length (a .index) ≡ length index
   pub header-bytes : length (a .header) ≡ length header
   pub tx-bytes : length (a .arena) ≡ length arena
@@ -111,8 +112,8 @@ module _ (shape : Shape) (m : Memory) (p s : ℕ) (h : hasRooms shape (m .number
   room-length : (size : ℕ) (rooms : List ℕ) → 4 * shape .«max_peers» * size ≤ length rooms → length (roomPart size rooms p s) ≡ size
   room-length size rooms g = length-part (roomAt size p s) size rooms (let r = room-in size (shape .«max_peers») p s k l in omega arith)
 
-  pub words-length : length (wordsPart (m .numbers) p s) ≡ 9
-  words-length = length-part (slotAt p s) 9 (m .numbers) (omega (arith, room .numbers-long))
+  pub words-length : length (wordsPart (m .numbers) p s) ≡ slotWords
+  words-length = length-part (slotAt p s) slotWords (m .numbers) (omega (arith, room .numbers-long))
 
   pub records-length : length (roomPart (shape .«fragment_records») (m .index) p s) ≡ shape .«fragment_records»
   records-length = room-length (shape .«fragment_records») (m .index) (room .index-long)

@@ -20,8 +20,9 @@ use Rattle.pe_wire.proofs.RoundTrip.{read-small}
 use Rattle.pe_slot.specs.Memory.{slotOf, wordsOf, endsAt, isSound}
 use Rattle.pe_slot.specs.Feed.{SlotLeft, closedSlot, reachedSlot}
 use Rattle.pe_slot.proofs.FeedTheorems.{sound-again}
+use Rattle.pe_slot.specs.Layout.{slotWords}
 use Rattle.pe_reassembler.specs.declared.shape.Shape.{Shape}
-use Rattle.pe_reassembler.specs.Calls.{numbered, newCall, closeAt, cancelIn, cancelAt, cancelCall, dropAt, dropCall}
+use Rattle.pe_reassembler.specs.Calls.{onRecord, newCall, closeAt, cancelIn, cancelAt, cancelCall, dropAt, dropCall}
 use Rattle.pe_reassembler.specs.Feed.{Memory, nextTick, wordsPart, roomPart, lifted, reach, inSlot, inRecord, atTable, chunkRead, hasAll, feedCall, messageRead, messageCall}
 use Rattle.pe_reassembler.specs.Poll.{isDue, closeDue, pollCall}
 use Rattle.pe_reassembler.specs.Table.{numbersLen, hasNumbers, hasRooms, isActive, isMuid, recordOf, recordFor, slotOpen, slotFor}
@@ -79,7 +80,7 @@ pub sound-new : (shape : Shape) (numbers index headers arenas : List ℕ) → ha
 sound-new shape numbers index headers arenas h =
     record {
       each = λ (p s : ℕ) (k : p < shape .«max_peers») (l : s < 4).
-          rw (new-words shape numbers index headers arenas h p s k l) (closed-sound _ _ _ (replicate 9 0) _);
+          rw (new-words shape numbers index headers arenas h p s k l) (closed-sound _ _ _ (replicate slotWords 0) _);
     }
 
 -- the calls that close keep it
@@ -104,7 +105,7 @@ module _ (shape : Shape) (numbers index : List ℕ) (a : SlotsSound shape number
 
       go : (b : Bool) → hasNumbers shape numbers ≡ b → (d : Bool) (o : Option ℕ) → recordOf shape numbers peer ≡ o
           → SlotsSound shape
-          (cond b (cond d (cancelAt o request-id numbers) (numbered (refused 28 0) numbers)) (numbered (refused 30 0) numbers) .numbers) index
+          (onRecord (cond b (cond d (granted o) (refused 28 0)) (refused 30 0)) (λ (x : Option ℕ). cancelAt x request-id numbers) numbers .numbers) index
       go false h d o f = a
       go true h false o f = a
       go true h true none f = a
@@ -129,7 +130,7 @@ module _ (shape : Shape) (numbers index : List ℕ) (a : SlotsSound shape number
           }
 
       go : (b : Bool) → hasNumbers shape numbers ≡ b → (d : Bool) (o : Option ℕ) → recordOf shape numbers peer ≡ o
-          → SlotsSound shape (cond b (cond d (dropAt o numbers) (numbered (refused 28 0) numbers)) (numbered (refused 30 0) numbers) .numbers) index
+          → SlotsSound shape (onRecord (cond b (cond d (granted o) (refused 28 0)) (refused 30 0)) (λ (x : Option ℕ). dropAt x numbers) numbers .numbers) index
       go false h d o f = a
       go true h false o f = a
       go true h true none f = a

@@ -13,7 +13,7 @@ use lib.ListN.{length}
 use Rattle.seven_bit.proofs.ReplyLaws.{and-told}
 use Rattle.pe_reassembler.specs.declared.shape.Shape.{Shape}
 use Rattle.pe_reassembler.specs.declared.table.Place.{Place}
-use Rattle.pe_reassembler.specs.Table.{inRange, hasNumbers, hasRooms, numbersLen, roomsLen, isBound, isIdle, firstFrom, first, orElse, recordOf, recordFor, slotOpen, slotFor, placeTold}
+use Rattle.pe_reassembler.specs.Table.{inRange, hasNumbers, hasRooms, numbersLen, roomsLen, isBound, isIdle, firstFrom, first, orElse, recordOf, recordFor, slotOpen, slotFor, placeTold, HasPeer}
 
 -- what the questions tell
 pub record Ranges (shape : Shape) : Type 0 where
@@ -142,7 +142,7 @@ slot-for-below numbers p request-id s e = or-below (slotOpen numbers p request-i
 
 -- the words of a record that is found
 pub record-in : (shape : Shape) (numbers : List ℕ) (peer p : ℕ) → hasNumbers shape numbers ≡ true → recordOf shape numbers peer ≡ some p
-    → (p < 16) × (39 + 38 * p ≤ length numbers)
+    → HasPeer numbers p
 record-in shape numbers peer p e f =
     let l = numbers-long shape numbers e in
     let b = record-of-below shape numbers peer p f in

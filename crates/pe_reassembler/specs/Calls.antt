@@ -7,12 +7,13 @@ use mathlib.Core.Option.{Option, none, some}
 use lib.Dec.{leb}
 use lib.ListN.{length, getD, set, drop, replicate}
 use Rattle.seven_bit.specs.Parts.{part, splice}
-use Rattle.seven_bit.specs.Reply.{Reply, granted, refused}
+use Rattle.seven_bit.specs.Reply.{Reply, granted, refused, _else_then_}
 use Rattle.pe_wire.specs.Errors.{peRefused}
-use Rattle.pe_slot.specs.Feed.{closedSlot}
-use Rattle.pe_slot.specs.Memory.{slotOf, wordsOf}
+use Rattle.pe_slot.specs.Layout.{slotWords, headerLenAt, indexLenAt, propertyBytesAt}
+use Rattle.pe_slot.specs.Feed.{cleared}
 use Rattle.pe_reassembler.specs.declared.shape.Shape.{Shape}
 use Rattle.pe_reassembler.specs.declared.calls.Made.{Made}
+use Rattle.pe_reassembler.specs.declared.calls.Found.{Found}
 use Rattle.pe_reassembler.specs.declared.calls.Cancelled.{Cancelled}
 use Rattle.pe_reassembler.specs.declared.calls.Count.{Count}
 use Rattle.pe_reassembler.specs.declared.calls.Stats.{Stats}
@@ -29,7 +30,7 @@ numbered answer numbers = record { answer = answer; numbers = numbers }
 -- "`new` leaves every record unbound under console 0FFFFFFF and every number of each transfer 0, and keeps the rooms' bytes"; the clock is 1, so that the first tick is 2
 unfoldable pub freshPeers : ℕ → List ℕ
 freshPeers zero = []
-freshPeers (suc n) = 0 ∷ 0x0FFFFFFF ∷ (replicate 36 0 ++ freshPeers n)
+freshPeers (suc n) = 0 ∷ 0x0FFFFFFF ∷ (replicate (4 * slotWords) 0 ++ freshPeers n)
 
 pub record Fresh : Type 0 where
   pub answer : Reply ℕ
@@ -53,7 +54,24 @@ madeTold (Made.Refused e) = peRefused e
 
 -- A slot closed in its place.
 unfoldable pub closeAt : ℕ → ℕ → List ℕ → List ℕ
-closeAt p s numbers = splice (slotAt p s) 9 numbers (wordsOf (closedSlot (slotOf (part (slotAt p s) 9 numbers))))
+closeAt p s numbers = splice (slotAt p s) slotWords numbers (cleared (part (slotAt p s) slotWords numbers))
+
+-- **Every table call**, of a call on a peer: 30, then 28; what is granted is its record, if it has one.
+abbrev pub findPeer : Shape → List ℕ → ℕ → Reply (Option ℕ)
+findPeer shape numbers peer =
+    hasNumbers shape numbers else 30 then
+    isMuid peer else 28 then
+    granted (recordOf shape numbers peer)
+
+-- What is then done with it; a refusal changes nothing.
+abbrev pub onRecord : {A : Type 0} → Reply (Option ℕ) → (Option ℕ → Numbered A) → List ℕ → Numbered A
+onRecord (granted found) next numbers = next found
+onRecord (refused number value) next numbers = numbered (refused number value) numbers
+
+abbrev pub foundTold : Found → Reply (Option ℕ)
+foundTold (Found.At p) = granted (some p)
+foundTold Found.Nothing = granted none
+foundTold (Found.Refused e) = peRefused e
 
 -- "Cancel closes the transfer it names"; "without a match answer no"
 abbrev pub cancelIn : Option ℕ → ℕ → List ℕ → Numbered Bool
@@ -66,11 +84,7 @@ cancelAt (some p) request-id numbers = cancelIn (slotOpen numbers p request-id) 
 
 unfoldable pub cancelCall : Shape → List ℕ → ℕ → ℕ → Numbered Bool
 cancelCall shape numbers peer request-id =
-    cond (hasNumbers shape numbers)
-    (cond (isMuid peer)
-    (cancelAt (recordOf shape numbers peer) request-id numbers)
-    (numbered (refused 28 0) numbers))
-    (numbered (refused 30 0) numbers)
+    onRecord (findPeer shape numbers peer) (λ (found : Option ℕ). cancelAt found request-id numbers) numbers
 
 abbrev pub cancelledTold : Cancelled → Reply Bool
 cancelledTold (Cancelled.Answer b) = granted b
@@ -90,12 +104,7 @@ dropAt (some p) numbers =
     (set (closeOpen p 3 (closeOpen p 2 (closeOpen p 1 (closeOpen p 0 numbers)))) (peerAt p) 0)
 
 unfoldable pub dropCall : Shape → List ℕ → ℕ → Numbered ℕ
-dropCall shape numbers peer =
-    cond (hasNumbers shape numbers)
-    (cond (isMuid peer)
-    (dropAt (recordOf shape numbers peer) numbers)
-    (numbered (refused 28 0) numbers))
-    (numbered (refused 30 0) numbers)
+dropCall shape numbers peer = onRecord (findPeer shape numbers peer) (λ (found : Option ℕ). dropAt found numbers) numbers
 
 abbrev pub countTold : Count → Reply ℕ
 countTold (Count.Number n) = granted n
@@ -105,7 +114,7 @@ countTold (Count.Refused e) = peRefused e
 unfoldable pub slotBytes : List ℕ → ℕ → ℕ → ℕ
 slotBytes numbers p s =
     cond (isActive numbers p s)
-    (getD numbers (slotAt p s + 6) 0 + getD numbers (slotAt p s + 8) 0 + 8 * getD numbers (slotAt p s + 7) 0)
+    (getD numbers (slotAt p s + headerLenAt) 0 + getD numbers (slotAt p s + propertyBytesAt) 0 + 8 * getD numbers (slotAt p s + indexLenAt) 0)
     0
 
 -- A sum over the four slots of each of the first n peers.

@@ -6,13 +6,14 @@ use mathlib.Core.List.{List, [], _∷_, _++_, map}
 use lib.Dec.{leb}
 use lib.ListN.{length, getD, drop}
 use Rattle.seven_bit.specs.Reply.{Reply, granted, refused}
+use Rattle.pe_slot.specs.Layout.{requestIdAt, lastActivityAt, lruTickAt}
 use Rattle.pe_reassembler.specs.declared.shape.Shape.{Shape}
 use Rattle.pe_reassembler.specs.Calls.{closeAt}
 use Rattle.pe_reassembler.specs.Table.{hasNumbers, isActive, peerAt, slotAt, rowsFrom}
 
 -- An open slot whose time is up.
 unfoldable pub isDue : List ℕ → ℕ → ℕ → ℕ → Bool
-isDue numbers now-ms p s = isActive numbers p s && leb 3000 (now-ms - getD numbers (slotAt p s + 2) 0)
+isDue numbers now-ms p s = isActive numbers p s && leb 3000 (now-ms - getD numbers (slotAt p s + lastActivityAt) 0)
 
 pub record Timeout : Type 0 where
   pub tick : ℕ
@@ -21,7 +22,7 @@ pub record Timeout : Type 0 where
 
 abbrev pub timeoutOf : List ℕ → ℕ → ℕ → Timeout
 timeoutOf numbers p s =
-    record { tick = getD numbers (slotAt p s + 3) 0; peer = getD numbers (peerAt p + 1) 0; request-id = getD numbers (slotAt p s + 1) 0 }
+    record { tick = getD numbers (slotAt p s + lruTickAt) 0; peer = getD numbers (peerAt p + 1) 0; request-id = getD numbers (slotAt p s + requestIdAt) 0 }
 
 -- Those of the k slots from slot s of record p on, by place.
 abbrev pub dueFrom : List ℕ → ℕ → ℕ → ℕ → ℕ → List Timeout

@@ -1,11 +1,12 @@
 -- The lent memory of a reassembler (document 01's table), and the questions under **Every table call** and **Table**.
 -- Assumes nothing.
-use Prim.Native.Nat.{ℕ, zero, suc, _+_, _*_}
+use Prim.Native.Nat.{ℕ, zero, suc, _+_, _*_, _≤_, _<_}
 use mathlib.Core.Bool.{Bool, true, false, cond, not, _&&_}
 use mathlib.Core.List.{List, [], _∷_, _++_}
 use mathlib.Core.Option.{Option, none, some}
 use lib.Dec.{leb, eqb}
 use lib.ListN.{length, getD}
+use Rattle.pe_slot.specs.Layout.{slotWords, requestIdAt}
 use Rattle.pe_reassembler.specs.declared.shape.Shape.{Shape}
 use Rattle.pe_reassembler.specs.declared.table.Place.{Place}
 
@@ -17,15 +18,25 @@ inRange s =
     && leb (s .«tx_bytes») 65536
     && leb (s .«fragment_records») 2048
 
--- The words of `numbers`: the clock, then for each peer bound, muid and four slots of nine words.
+-- The words of `numbers`: the clock, then for each peer bound, muid and four slots.
+abbrev pub peerWords : ℕ
+peerWords = 2 + 4 * slotWords
+
 abbrev pub peerAt : ℕ → ℕ
-peerAt p = 1 + 38 * p
+peerAt p = 1 + peerWords * p
 
 abbrev pub slotAt : ℕ → ℕ → ℕ
-slotAt p s = 3 + 38 * p + 9 * s
+slotAt p s = 3 + peerWords * p + slotWords * s
 
 abbrev pub numbersLen : Shape → ℕ
-numbersLen shape = 1 + 38 * (shape .«max_peers»)
+numbersLen shape = peerAt (shape .«max_peers»)
+
+-- Record p lies in the numbers that are lent, and slot s of it.
+abbrev pub HasPeer : List ℕ → ℕ → Type 0
+HasPeer numbers p = (p < 16) × (peerAt p + peerWords ≤ length numbers)
+
+abbrev pub HasSlot : List ℕ → ℕ → ℕ → Type 0
+HasSlot numbers p s = (p < 16) × (s < 4) × (peerAt p + peerWords ≤ length numbers)
 
 -- The place of a slot's room of a size, in `index`, `headers` or `arenas`.
 abbrev pub roomAt : ℕ → ℕ → ℕ → ℕ
@@ -49,7 +60,7 @@ hasRooms shape numbers index headers arenas =
 abbrev pub isMuid : ℕ → Bool
 isMuid peer = leb peer 0x0FFFFFFF
 
--- The stored numbers, as they are: nonzero means true.
+-- The stored numbers, as they are: nonzero means true. The first word of a slot says whether it is open.
 unfoldable pub isBound : List ℕ → ℕ → Bool
 isBound numbers p = not (eqb (getD numbers (peerAt p) 0) 0)
 
@@ -63,7 +74,7 @@ unfoldable pub isIdle : List ℕ → ℕ → Bool
 isIdle numbers p = not (isActive numbers p 0) && not (isActive numbers p 1) && not (isActive numbers p 2) && not (isActive numbers p 3)
 
 unfoldable pub hasId : List ℕ → ℕ → ℕ → ℕ → Bool
-hasId numbers request-id p s = isActive numbers p s && eqb (getD numbers (slotAt p s + 1) 0) request-id
+hasId numbers request-id p s = isActive numbers p s && eqb (getD numbers (slotAt p s + requestIdAt) 0) request-id
 
 -- The first of the k places from i on that a test takes.
 unfoldable pub firstFrom : (ℕ → Bool) → ℕ → ℕ → Option ℕ

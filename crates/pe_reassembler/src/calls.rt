@@ -1,9 +1,7 @@
 // new, cancel, drop_peer, memory_stats and reserved_bytes.
 use crate::shape::Shape;
-use crate::table::HEADER_LEN;
-use crate::table::INDEX_LEN;
+use crate::table::MUID;
 use crate::table::PEER_WORDS;
-use crate::table::PROPERTY_BYTES;
 use crate::table::Place;
 use crate::table::close_at;
 use crate::table::has_numbers;
@@ -16,6 +14,9 @@ use crate::table::slot_at;
 use crate::table::slot_open;
 use midici_core::error::CiError;
 use midici_core::muid::Muid;
+use pe_slot::layout::HEADER_LEN;
+use pe_slot::layout::INDEX_LEN;
+use pe_slot::layout::PROPERTY_BYTES;
 use pe_wire::error::PeError;
 ghost use mathlib.Core.Bool.{true};
 ghost use mathlib.Core.List.{_∷_, _++_};
@@ -25,8 +26,8 @@ ghost use Prim.Native.Nat.{_+_, _*_, _≤_, _<_, min};
 ghost use lib.ListN.{length, drop, replicate};
 ghost use Rattle.seven_bit.specs.Parts.{put};
 ghost use Rattle.seven_bit.specs.Reply.{granted};
-ghost use Rattle.pe_reassembler.specs.Calls.{newCall, fresh, madeTold, freshPeers, cancelCall, numbered, cancelledTold, closeOpen, openCount, dropAt, dropCall, countTold, slotBytes, overSlots, reservedOf, statsCall, statsTold, reservedCall};
-ghost use Rattle.pe_reassembler.specs.Table.{inRange, hasNumbers};
+ghost use Rattle.pe_reassembler.specs.Calls.{newCall, fresh, madeTold, freshPeers, findPeer, foundTold, cancelCall, numbered, cancelledTold, closeOpen, openCount, dropAt, dropCall, countTold, slotBytes, overSlots, reservedOf, statsCall, statsTold, reservedCall};
+ghost use Rattle.pe_reassembler.specs.Table.{inRange, hasNumbers, HasPeer, HasSlot, peerWords, peerAt};
 
 pub enum Made {
     Done,
@@ -68,16 +69,16 @@ fn zero(words: &mut [u64])
 
 // Makes the record of a peer, unbound and with nothing open.
 fn fresh_peer(words: &mut [u64])
-    requires { ⌜ length (now words) ≡ 38 ⌝ }
+    requires { ⌜ length (now words) ≡ peerWords ⌝ }
     ensures { λ _. ⌜ now (words .exit) ≡ freshPeers 1 ⌝ }
 {
     zero(words);
-    words[1] = Muid::BROADCAST_VALUE as u64;
+    words[MUID] = Muid::BROADCAST_VALUE as u64;
 }
 
 // Makes the records of all peers.
 fn fresh_peers(numbers: &mut [u64], max_peers: usize)
-    requires { ⌜ («max_peers» ≤ 16) × (1 + 38 * «max_peers» ≤ length (now numbers)) ⌝ }
+    requires { ⌜ («max_peers» ≤ 16) × (peerAt «max_peers» ≤ length (now numbers)) ⌝ }
     ensures { λ _. ⌜ now (numbers .exit) ≡ put (now (numbers .entry)) 1 (freshPeers «max_peers») ⌝ }
 {
     let mut p = 0;
@@ -90,8 +91,8 @@ fn fresh_peers(numbers: &mut [u64], max_peers: usize)
 
 // Makes the clock and the records: the first tick is 2.
 fn fresh_numbers(numbers: &mut [u64], max_peers: usize)
-    requires { ⌜ («max_peers» ≤ 16) × (1 + 38 * «max_peers» ≤ length (now numbers)) ⌝ }
-    ensures { λ _. ⌜ now (numbers .exit) ≡ (1 ∷ freshPeers «max_peers») ++ drop (1 + 38 * «max_peers») (now (numbers .entry)) ⌝ }
+    requires { ⌜ («max_peers» ≤ 16) × (peerAt «max_peers» ≤ length (now numbers)) ⌝ }
+    ensures { λ _. ⌜ now (numbers .exit) ≡ (1 ∷ freshPeers «max_peers») ++ drop (peerAt «max_peers») (now (numbers .entry)) ⌝ }
 {
     numbers[0] = 1;
     fresh_peers(numbers, max_peers);
@@ -117,18 +118,37 @@ pub fn new(
     Made::Done
 }
 
+// What a call on a peer finds first: its record, none, or that the call is refused.
+pub(crate) enum Found {
+    At(usize),
+    Nothing,
+    Refused(PeError),
+}
+
+// Asks 30 and 28, and finds the record that is bound to a peer.
+fn find_peer(shape: Shape, numbers: &[u64], peer: u32) -> Found
+    ensures { λ r. ⌜ foundTold r ≡ findPeer shape (now (numbers .entry)) peer ⌝ }
+{
+    if !has_numbers(shape, numbers) {
+        return Found::Refused(PeError::BadShape);
+    }
+    if peer > Muid::BROADCAST_VALUE {
+        return Found::Refused(PeError::Ci(CiError::InvalidMuid));
+    }
+    let Place::At(p) = record_of(shape, numbers, peer) else {
+        return Found::Nothing;
+    };
+    Found::At(p)
+}
+
 // Closes the slot of a peer that is open with a request id.
 pub fn cancel(shape: Shape, numbers: &mut [u64], peer: u32, request_id: u8) -> Cancelled
     ensures { λ r. ⌜ numbered (cancelledTold r) (now (numbers .exit)) ≡ cancelCall shape (now (numbers .entry)) peer «request_id» ⌝ }
 {
-    if !has_numbers(shape, numbers) {
-        return Cancelled::Refused(PeError::BadShape);
-    }
-    if peer > Muid::BROADCAST_VALUE {
-        return Cancelled::Refused(PeError::Ci(CiError::InvalidMuid));
-    }
-    let Place::At(p) = record_of(shape, numbers, peer) else {
-        return Cancelled::Answer(false);
+    let p = match find_peer(shape, numbers, peer) {
+        Found::At(p) => p,
+        Found::Nothing => return Cancelled::Answer(false),
+        Found::Refused(e) => return Cancelled::Refused(e),
     };
     let Place::At(s) = slot_open(numbers, p, request_id) else {
         return Cancelled::Answer(false);
@@ -139,7 +159,7 @@ pub fn cancel(shape: Shape, numbers: &mut [u64], peer: u32, request_id: u8) -> C
 
 // How many slots of a record are open.
 fn open_slots(numbers: &[u64], p: usize) -> u64
-    requires { ⌜ (p < 16) × (39 + 38 * p ≤ length (now numbers)) ⌝ }
+    requires { ⌜ HasPeer (now numbers) p ⌝ }
     ensures { λ r. ⌜ (r ≡ openCount (now (numbers .entry)) p 0 + openCount (now (numbers .entry)) p 1 + openCount (now (numbers .entry)) p
         2 + openCount (now (numbers .entry)) p 3) × (r ≤ 4) ⌝ }
 {
@@ -151,7 +171,7 @@ fn open_slots(numbers: &[u64], p: usize) -> u64
 
 // Closes a slot if it is open.
 fn close_open(numbers: &mut [u64], p: usize, s: usize)
-    requires { ⌜ (p < 16) × (s < 4) × (39 + 38 * p ≤ length (now numbers)) ⌝ }
+    requires { ⌜ HasSlot (now numbers) p s ⌝ }
     ensures { λ _. ⌜ now (numbers .exit) ≡ closeOpen p s (now (numbers .entry)) ⌝ }
 {
     if !is_active(numbers, p, s) {
@@ -162,7 +182,7 @@ fn close_open(numbers: &mut [u64], p: usize, s: usize)
 
 // Closes all slots of a record and unbinds it: how many were open.
 fn drop_record(numbers: &mut [u64], p: usize) -> u64
-    requires { ⌜ (p < 16) × (39 + 38 * p ≤ length (now numbers)) ⌝ }
+    requires { ⌜ HasPeer (now numbers) p ⌝ }
     ensures { λ r. ⌜ numbered (granted r) (now (numbers .exit)) ≡ dropAt (some p) (now (numbers .entry)) ⌝ }
 {
     let open = open_slots(numbers, p);
@@ -179,14 +199,10 @@ fn drop_record(numbers: &mut [u64], p: usize) -> u64
 pub fn drop_peer(shape: Shape, numbers: &mut [u64], peer: u32) -> Count
     ensures { λ r. ⌜ numbered (countTold r) (now (numbers .exit)) ≡ dropCall shape (now (numbers .entry)) peer ⌝ }
 {
-    if !has_numbers(shape, numbers) {
-        return Count::Refused(PeError::BadShape);
-    }
-    if peer > Muid::BROADCAST_VALUE {
-        return Count::Refused(PeError::Ci(CiError::InvalidMuid));
-    }
-    let Place::At(p) = record_of(shape, numbers, peer) else {
-        return Count::Number(0);
+    let p = match find_peer(shape, numbers, peer) {
+        Found::At(p) => p,
+        Found::Nothing => return Count::Number(0),
+        Found::Refused(e) => return Count::Refused(e),
     };
     Count::Number(drop_record(numbers, p))
 }
@@ -213,7 +229,7 @@ fn record_bytes(records: u64) -> u64
 
 // The bytes that a slot holds.
 fn slot_bytes(numbers: &[u64], p: usize, s: usize) -> u64
-    requires { ⌜ (p < 16) × (s < 4) × (39 + 38 * p ≤ length (now numbers)) ⌝ }
+    requires { ⌜ HasSlot (now numbers) p s ⌝ }
     ensures { λ r. ⌜ r ≡ min (slotBytes (now (numbers .entry)) p s) 18446744073709551615 ⌝ }
 {
     if !is_active(numbers, p, s) {
@@ -226,7 +242,7 @@ fn slot_bytes(numbers: &[u64], p: usize, s: usize) -> u64
 
 // The bytes that a peer's slots hold, on top of those so far.
 fn add_peer_bytes(total: u64, numbers: &[u64], p: usize) -> u64
-    requires { ⌜ (p < 16) × (39 + 38 * p ≤ length (now numbers)) ⌝ }
+    requires { ⌜ HasPeer (now numbers) p ⌝ }
     ensures { λ r. ⌜ r ≡ min (total
         + (slotBytes (now (numbers .entry)) p 0 + slotBytes (now (numbers .entry)) p 1 + slotBytes (now (numbers .entry)) p 2 + slotBytes
         (now (numbers .entry)) p 3)) 18446744073709551615 ⌝ }

@@ -1,28 +1,26 @@
 // The questions that every call asks, and where a peer's record and a slot are.
 use crate::shape::Shape;
+use pe_slot::layout::MAX_FRAGMENT_RECORDS;
+use pe_slot::layout::MAX_HEADER_BYTES;
+use pe_slot::layout::MAX_TX_BYTES;
+use pe_slot::layout::REQUEST_ID;
+use pe_slot::layout::SLOT_WORDS;
+use pe_slot::slot::close;
 ghost use mathlib.Core.Bool.{true, not};
 ghost use mathlib.Core.Path.{_≡_};
 ghost use Prim.Native.Nat.{_+_, _*_, _≤_, _<_};
 ghost use lib.Dec.{leb};
 ghost use lib.ListN.{length};
-ghost use Rattle.pe_slot.specs.Feed.{closedSlot};
-ghost use Rattle.pe_slot.specs.Memory.{slotOf, wordsOf};
 ghost use Rattle.pe_reassembler.specs.Calls.{closeAt};
-ghost use Rattle.pe_reassembler.specs.Table.{inRange, hasNumbers, hasRooms, peerAt, slotAt, isBound, boundTo, isIdle, hasId, first, orElse, recordOf, recordFor, slotOpen, slotFor, isActive, placeTold};
+ghost use Rattle.pe_reassembler.specs.Table.{inRange, hasNumbers, hasRooms, HasPeer, HasSlot, peerAt, slotAt, isBound, boundTo, isIdle, hasId, first, orElse, recordOf, recordFor, slotOpen, slotFor, isActive, placeTold};
 
-// The words of a slot, and of a peer: bound, muid and four slots.
-pub(crate) const SLOT_WORDS: usize = 9;
+pub(crate) const MAX_PEERS: usize = 16;
 
-pub(crate) const PEER_WORDS: usize = 38;
+// The words of a peer: bound, muid and four slots.
+pub(crate) const PEER_WORDS: usize = 2 + 4 * SLOT_WORDS;
 
-// A slot's words: active, request_id, last_activity_ms, lru_tick, num_chunks, header_set, header_len, index_len, property_bytes.
-pub(crate) const REQUEST_ID: usize = 1;
-
-pub(crate) const HEADER_LEN: usize = 6;
-
-pub(crate) const INDEX_LEN: usize = 7;
-
-pub(crate) const PROPERTY_BYTES: usize = 8;
+// Its muid's place among them.
+pub(crate) const MUID: usize = 1;
 
 // A record or a slot, or none.
 pub(crate) enum Place {
@@ -33,16 +31,16 @@ pub(crate) enum Place {
 pub(crate) fn in_range(shape: Shape) -> bool
     ensures { λ r. ⌜ r ≡ inRange shape ⌝ }
 {
-    if shape.max_peers > 16 {
+    if shape.max_peers > MAX_PEERS {
         return false;
     }
-    if shape.header_bytes > 4096 {
+    if shape.header_bytes > MAX_HEADER_BYTES {
         return false;
     }
-    if shape.tx_bytes > 65_536 {
+    if shape.tx_bytes > MAX_TX_BYTES {
         return false;
     }
-    shape.fragment_records <= 2048
+    shape.fragment_records <= MAX_FRAGMENT_RECORDS
 }
 
 pub(crate) fn has_numbers(shape: Shape, numbers: &[u64]) -> bool
@@ -91,7 +89,7 @@ pub(crate) fn peer_at(p: usize) -> usize
     1 + PEER_WORDS * p
 }
 
-// Where the nine words of a slot start.
+// Where the words of a slot start.
 pub(crate) fn slot_at(p: usize, s: usize) -> usize
     requires { ⌜ (p < 16) × (s < 4) ⌝ }
     ensures { λ r. ⌜ r ≡ slotAt p s ⌝ }
@@ -100,7 +98,7 @@ pub(crate) fn slot_at(p: usize, s: usize) -> usize
 }
 
 fn is_bound(numbers: &[u64], p: usize) -> bool
-    requires { ⌜ (p < 16) × (39 + 38 * p ≤ length (now numbers)) ⌝ }
+    requires { ⌜ HasPeer (now numbers) p ⌝ }
     ensures { λ r. ⌜ r ≡ isBound (now (numbers .entry)) p ⌝ }
 {
     let at = peer_at(p);
@@ -108,19 +106,19 @@ fn is_bound(numbers: &[u64], p: usize) -> bool
 }
 
 pub(crate) fn bound_to(numbers: &[u64], p: usize, peer: u32) -> bool
-    requires { ⌜ (p < 16) × (39 + 38 * p ≤ length (now numbers)) ⌝ }
+    requires { ⌜ HasPeer (now numbers) p ⌝ }
     ensures { λ r. ⌜ r ≡ boundTo (now (numbers .entry)) peer p ⌝ }
 {
     if !is_bound(numbers, p) {
         return false;
     }
     let at = peer_at(p);
-    numbers[at + 1] == peer as u64
+    numbers[at + MUID] == peer as u64
 }
 
 // Is a slot of a record open?
 pub(crate) fn is_active(numbers: &[u64], p: usize, s: usize) -> bool
-    requires { ⌜ (p < 16) × (s < 4) × (39 + 38 * p ≤ length (now numbers)) ⌝ }
+    requires { ⌜ HasSlot (now numbers) p s ⌝ }
     ensures { λ r. ⌜ r ≡ isActive (now (numbers .entry)) p s ⌝ }
 {
     let at = slot_at(p, s);
@@ -129,7 +127,7 @@ pub(crate) fn is_active(numbers: &[u64], p: usize, s: usize) -> bool
 
 // Has a record nothing open?
 fn is_idle(numbers: &[u64], p: usize) -> bool
-    requires { ⌜ (p < 16) × (39 + 38 * p ≤ length (now numbers)) ⌝ }
+    requires { ⌜ HasPeer (now numbers) p ⌝ }
     ensures { λ r. ⌜ r ≡ isIdle (now (numbers .entry)) p ⌝ }
 {
     if is_active(numbers, p, 0) {
@@ -145,7 +143,7 @@ fn is_idle(numbers: &[u64], p: usize) -> bool
 }
 
 fn has_id(numbers: &[u64], request_id: u8, p: usize, s: usize) -> bool
-    requires { ⌜ (p < 16) × (s < 4) × (39 + 38 * p ≤ length (now numbers)) ⌝ }
+    requires { ⌜ HasSlot (now numbers) p s ⌝ }
     ensures { λ r. ⌜ r ≡ hasId (now (numbers .entry)) «request_id» p s ⌝ }
 {
     if !is_active(numbers, p, s) {
@@ -224,7 +222,7 @@ pub(crate) fn record_for(shape: Shape, numbers: &[u64], peer: u32) -> Place
 
 // The slot of a record that is open with a request id.
 pub(crate) fn slot_open(numbers: &[u64], p: usize, request_id: u8) -> Place
-    requires { ⌜ (p < 16) × (39 + 38 * p ≤ length (now numbers)) ⌝ }
+    requires { ⌜ HasPeer (now numbers) p ⌝ }
     ensures { λ r. ⌜ placeTold r ≡ slotOpen (now (numbers .entry)) p «request_id» ⌝ }
 {
     let mut s = 0;
@@ -238,7 +236,7 @@ pub(crate) fn slot_open(numbers: &[u64], p: usize, request_id: u8) -> Place
 }
 
 fn slot_free(numbers: &[u64], p: usize) -> Place
-    requires { ⌜ (p < 16) × (39 + 38 * p ≤ length (now numbers)) ⌝ }
+    requires { ⌜ HasPeer (now numbers) p ⌝ }
     ensures { λ r. ⌜ placeTold r ≡ first (λ s. not (isActive (now (numbers .entry)) p s)) 4 ⌝ }
 {
     let mut s = 0;
@@ -253,7 +251,7 @@ fn slot_free(numbers: &[u64], p: usize) -> Place
 
 // That slot, or else the first free one.
 pub(crate) fn slot_for(numbers: &[u64], p: usize, request_id: u8) -> Place
-    requires { ⌜ (p < 16) × (39 + 38 * p ≤ length (now numbers)) ⌝ }
+    requires { ⌜ HasPeer (now numbers) p ⌝ }
     ensures { λ r. ⌜ placeTold r ≡ slotFor (now (numbers .entry)) p «request_id» ⌝ }
 {
     let open = slot_open(numbers, p, request_id);
@@ -263,26 +261,11 @@ pub(crate) fn slot_for(numbers: &[u64], p: usize, request_id: u8) -> Place
     slot_free(numbers, p)
 }
 
-// Closes the slot of nine words: all but the tick become 0.
-fn clear(words: &mut [u64])
-    requires { ⌜ length (now words) ≡ 9 ⌝ }
-    ensures { λ _. ⌜ now (words .exit) ≡ wordsOf (closedSlot (slotOf (now (words .entry)))) ⌝ }
-{
-    words[0] = 0;
-    words[1] = 0;
-    words[2] = 0;
-    words[4] = 0;
-    words[5] = 0;
-    words[6] = 0;
-    words[7] = 0;
-    words[8] = 0;
-}
-
 // Closes a slot in its place.
 pub(crate) fn close_at(numbers: &mut [u64], p: usize, s: usize)
-    requires { ⌜ (p < 16) × (s < 4) × (39 + 38 * p ≤ length (now numbers)) ⌝ }
+    requires { ⌜ HasSlot (now numbers) p s ⌝ }
     ensures { λ _. ⌜ now (numbers .exit) ≡ closeAt p s (now (numbers .entry)) ⌝ }
 {
     let at = slot_at(p, s);
-    clear(&mut numbers[at..at + SLOT_WORDS]);
+    close(&mut numbers[at..at + SLOT_WORDS]);
 }

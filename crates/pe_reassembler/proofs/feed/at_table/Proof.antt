@@ -1,16 +1,19 @@
 use native.Mathlib.Omega.{arith}
+use denote.Ref.{now}
+use Rattle.pe_frame.specs.Chunk.{Chunk, chunkOf, fieldsOf}
+use Rattle.pe_reassembler.specs.Feed.{Memory, memory, atTable}
+use Rattle.pe_frame.proofs.RoundTrip.{read-in-range}
+use Rattle.pe_reassembler.proofs.TableLaws.{answer, record-for-below, slot-for-below}
+use Rattle.pe_reassembler.proofs.FeedLaws.{Lent, lent-told, record-for-in, reached-from}
 use borrow.Author.Needs.{needs}
 use Rattle.pe_reassembler.proofs.feed.at_table.Statement.{statement}
 use Rattle.pe_reassembler.proofs.feed.at_table.Tie as tie
-use denote.Ref.{now}
-use Rattle.pe_frame.proofs.RoundTrip.{read-told, read-in-range}
-use Rattle.pe_reassembler.specs.Feed.{Memory, memory, atTable}
-use Rattle.pe_reassembler.proofs.TableClose.{part-lent}
-use Rattle.pe_reassembler.proofs.TableLaws.{answer, record-for-below, slot-for-below}
-use Rattle.pe_reassembler.proofs.FeedLaws.{Lent, lent-told, record-for-in, read-bounds}
 
 abbrev lent : tie.Start → Memory
 lent b = memory (now (b .args .numbers)) (now (b .args .index)) (now (b .args .headers)) (now (b .args .arenas)) (now (b .args .out-header)) (now (b .args .out-body))
+
+abbrev chunk : tie.Start → Chunk
+chunk b = chunkOf (now (b .args .data)) (fieldsOf (b .args .f))
 
 all : (b : tie.Start) → Lent (b .args .shape) (lent b)
 all b = lent-told (b .args .shape) (lent b) (b .pre .0)
@@ -47,32 +50,17 @@ returns-2 : tie.Need-returns-2
 unfolding atTable
 returns-2 c = rw (answer (c .before .before .before .before .before .before .before .record-for .ensures) (c .before .before .before .before .before .p .given .1), answer (c .before .before .slot-for .ensures) (c .enum-told2 .given .1))
 
-add-header-end : tie.Need-add-header-end
-add-header-end c = let t = read-bounds _ _ (c .before .before .before .before .before .before .before .before .before .before .before .before .before .before .before .before .before .before .pre .1) .0 in omega (arith, t)
+slice-read-next-tick : tie.Need-slice-read-next-tick
+slice-read-next-tick c = let r = record-for-in _ _ _ _ (all (c .before .before .before .before .before .before .before .before .before .before .before .before .before .before .before .before .before .before) .numbers) (answer (c .before .before .before .before .before .before .before .before .before .record-for .ensures) (c .before .before .before .before .before .before .before .p .given .1)) in omega (arith, r)
 
-add-end : tie.Need-add-end
-add-end c = let t = read-bounds _ _ (c .before .before .before .before .before .before .before .before .before .before .before .before .before .before .before .before .before .before .before .pre .1) .1 in omega (arith, t)
-
-sub-reach-slot : tie.Need-sub-reach-slot
-sub-reach-slot c = search needs
-
-part-reach-slot-start : tie.Need-part-reach-slot-start
-part-reach-slot-start c = search needs
-
-part-reach-slot-end : tie.Need-part-reach-slot-end
-part-reach-slot-end c = let t = read-told _ _ (c .before .before .before .before .before .before .before .before .before .before .before .before .before .before .before .before .before .before .before .before .before .before .before .pre .1) .long in omega (arith, t)
-
-sub-reach-slot-2 : tie.Need-sub-reach-slot-2
-sub-reach-slot-2 c = search needs
-
-part-reach-slot-start-2 : tie.Need-part-reach-slot-start-2
-part-reach-slot-start-2 c = search needs
-
-part-reach-slot-end-2 : tie.Need-part-reach-slot-end-2
-part-reach-slot-end-2 c = let t = read-told _ _ (c .before .before .before .before .before .before .before .before .before .before .before .before .before .before .before .before .before .before .before .before .before .before .before .before .pre .1) in let l = t .long in let a = t .at in omega (arith, l, a)
+next-tick-requires : tie.Need-next-tick-requires
+next-tick-requires c κs = search needs
 
 reach-slot-requires : tie.Need-reach-slot-requires
-reach-slot-requires c κs = (c .before .before .before .before .before .before .before .before .before .before .before .before .before .before .before .before .before .before .before .before .before .before .before .before .before .before .before .pre .0, (record-for-below _ _ _ _ (answer (c .before .before .before .before .before .before .before .before .before .before .before .before .before .before .before .before .before .before .record-for .ensures) (c .before .before .before .before .before .before .before .before .before .before .before .before .before .before .before .before .p .given .1)), slot-for-below _ _ _ _ (answer (c .before .before .before .before .before .before .before .before .before .before .before .before .before .slot-for .ensures) (c .before .before .before .before .before .before .before .before .before .before .before .s .given .1)), rw (part-lent (c .before .before .before .before .before .before .before .before .before .before .before .before .before .before .before .before .before .before .before .before .before .before .before .before .before .before .before .args .f .«property_at») (c .before .before .before .before .before .before .before .before .before .before .before .before .before .before .before .before .before .before .before .before .before .before .before .before .before .before .before .args .f .«property_len») (now (c .before .before .before .before .before .before .before .before .before .before .before .before .before .before .before .before .before .before .before .before .before .before .before .before .before .before .before .args .data))) (read-in-range _ _ (c .before .before .before .before .before .before .before .before .before .before .before .before .before .before .before .before .before .before .before .before .before .before .before .before .before .before .before .pre .1) .property-len)))
+reach-slot-requires c κs = (c .before .before .before .before .before .before .before .before .before .before .before .before .before .before .before .before .before .before .before .before .before .before .before .before .before .pre .0, (record-for-below _ _ _ _ (answer (c .before .before .before .before .before .before .before .before .before .before .before .before .before .before .before .before .record-for .ensures) (c .before .before .before .before .before .before .before .before .before .before .before .before .before .before .p .given .1)), slot-for-below _ _ _ _ (answer (c .before .before .before .before .before .before .before .before .before .before .before .slot-for .ensures) (c .before .before .before .before .before .before .before .before .before .s .given .1)), c .before .before .before .before .before .before .before .before .before .before .before .before .before .before .before .before .before .before .before .before .before .before .before .before .before .pre .1))
+
+note-requires : tie.Need-note-requires
+note-requires c κs = let r = record-for-in _ _ _ _ (all (c .before .before .before .before .before .before .before .before .before .before .before .before .before .before .before .before .before .before .before .before .before .before .before .before .before .before .before .before .before .before .before .before .before .before .before .before .before .before .before) .numbers) (answer (c .before .before .before .before .before .before .before .before .before .before .before .before .before .before .before .before .before .before .before .before .before .before .before .before .before .before .before .before .before .before .record-for .ensures) (c .before .before .before .before .before .before .before .before .before .before .before .before .before .before .before .before .before .before .before .before .before .before .before .before .before .before .before .before .p .given .1)) in search (needs, r)
 
 same-length-3 : tie.Need-same-length-3
 same-length-3 c = search needs
@@ -95,8 +83,10 @@ same-length-8 c = search needs
 returns-3 : tie.Need-returns-3
 unfolding atTable
 returns-3 c =
-    rw (answer (c .before .before .before .before .before .before .before .before .before .before .before .before .before .before .before .before .before .before .before .before .before .before .before .before .before .before .before .before .before .before .before .record-for .ensures) (c .before .before .before .before .before .before .before .before .before .before .before .before .before .before .before .before .before .before .before .before .before .before .before .before .before .before .before .before .before .p .given .1), answer (c .before .before .before .before .before .before .before .before .before .before .before .before .before .before .before .before .before .before .before .before .before .before .before .before .before .before .slot-for .ensures) (c .before .before .before .before .before .before .before .before .before .before .before .before .before .before .before .before .before .before .before .before .before .before .before .before .s .given .1))
-    (rw (part-lent 3 (c .before .before .before .before .before .before .before .before .before .before .before .before .before .before .before .before .before .before .before .before .before .before .before .before .before .before .before .before .before .before .before .before .before .before .before .before .before .before .before .before .args .f .«header_len») (now (c .before .before .before .before .before .before .before .before .before .before .before .before .before .before .before .before .before .before .before .before .before .before .before .before .before .before .before .before .before .before .before .before .before .before .before .before .before .before .before .before .args .data)), part-lent (c .before .before .before .before .before .before .before .before .before .before .before .before .before .before .before .before .before .before .before .before .before .before .before .before .before .before .before .before .before .before .before .before .before .before .before .before .before .before .before .before .args .f .«property_at») (c .before .before .before .before .before .before .before .before .before .before .before .before .before .before .before .before .before .before .before .before .before .before .before .before .before .before .before .before .before .before .before .before .before .before .before .before .before .before .before .before .args .f .«property_len») (now (c .before .before .before .before .before .before .before .before .before .before .before .before .before .before .before .before .before .before .before .before .before .before .before .before .before .before .before .before .before .before .before .before .before .before .before .before .before .before .before .before .args .data))) at (c .before .before .before .before .before .before .before .before .before .before .before .before .reach-slot .ensures))
+    let b = c .before .before .before .before .before .before .before .before .before .before .before .before .before .before .before .before .before .before .before .before .before .before .before .before .before .before .before .before .before .before .before .before .before .before .before .before .before .before .before .before .before .before in
+    rw (answer (c .before .before .before .before .before .before .before .before .before .before .before .before .before .before .before .before .before .before .before .before .before .before .before .before .before .before .before .before .before .before .before .before .before .record-for .ensures) (c .before .before .before .before .before .before .before .before .before .before .before .before .before .before .before .before .before .before .before .before .before .before .before .before .before .before .before .before .before .before .before .p .given .1), answer (c .before .before .before .before .before .before .before .before .before .before .before .before .before .before .before .before .before .before .before .before .before .before .before .before .before .before .before .before .slot-for .ensures) (c .before .before .before .before .before .before .before .before .before .before .before .before .before .before .before .before .before .before .before .before .before .before .before .before .before .before .s .given .1))
+    (reached-from (b .args .shape) (lent b) (b .args .peer) (chunk b) (b .args .now-ms) _ _ (b .pre .0) (record-for-below _ _ _ _ (answer (c .before .before .before .before .before .before .before .before .before .before .before .before .before .before .before .before .before .before .before .before .before .before .before .before .before .before .before .before .before .before .before .before .before .record-for .ensures) (c .before .before .before .before .before .before .before .before .before .before .before .before .before .before .before .before .before .before .before .before .before .before .before .before .before .before .before .before .before .before .before .p .given .1))) (slot-for-below _ _ _ _ (answer (c .before .before .before .before .before .before .before .before .before .before .before .before .before .before .before .before .before .before .before .before .before .before .before .before .before .before .before .before .slot-for .ensures) (c .before .before .before .before .before .before .before .before .before .before .before .before .before .before .before .before .before .before .before .before .before .before .before .before .before .before .s .given .1))) _ _ _
+    (read-in-range _ _ (b .pre .1) .property-len) (c .before .before .before .before .before .before .before .before .before .before .before .before .before .before .before .before .before .before .before .before .before .before .before .next-tick .ensures) (c .before .before .before .before .before .before .before .before .before .before .before .before .before .before .before .before .reach-slot .ensures) (c .before .before .note .ensures))
 
 pub at-table-spec : {M : Type 1} → statement M
 at-table-spec =
@@ -112,15 +102,10 @@ at-table-spec =
     enum-told-2
     same-length-2
     returns-2
-    add-header-end
-    add-end
-    sub-reach-slot
-    part-reach-slot-start
-    part-reach-slot-end
-    sub-reach-slot-2
-    part-reach-slot-start-2
-    part-reach-slot-end-2
+    slice-read-next-tick
+    next-tick-requires
     reach-slot-requires
+    note-requires
     same-length-3
     same-length-4
     same-length-5

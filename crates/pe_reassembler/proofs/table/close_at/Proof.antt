@@ -1,45 +1,55 @@
+use Prim.Native.Nat.{_+_, _≤_}
+use lib.ListN.{length}
+use native.Mathlib.Omega.{arith}
+use denote.Ref.{now}
+use Rattle.pe_slot.specs.Layout.{slotWords}
+use Rattle.pe_reassembler.specs.Table.{slotAt}
+use Rattle.pe_reassembler.proofs.TableClose.{close-back}
 use borrow.Author.Needs.{needs}
 use Rattle.pe_reassembler.proofs.table.close_at.Statement.{statement}
 use Rattle.pe_reassembler.proofs.table.close_at.Tie as tie
-use Rattle.pe_reassembler.proofs.TableClose.{close-back}
 
 slot-at-requires : tie.Need-slot-at-requires
 slot-at-requires c κs = search needs
 
-add-clear : tie.Need-add-clear
-add-clear c = search needs
+add-close : tie.Need-add-close
+add-close c = search needs
 
-mul-clear : tie.Need-mul-clear
-mul-clear c = search needs
+mul-close : tie.Need-mul-close
+mul-close c = search needs
 
-sub-clear : tie.Need-sub-clear
-sub-clear c = search needs
+sub-close : tie.Need-sub-close
+sub-close c = search needs
 
-part-clear-start : tie.Need-part-clear-start
-part-clear-start c = search needs
+part-close-start : tie.Need-part-close-start
+part-close-start c = search needs
 
-part-clear-end : tie.Need-part-clear-end
-part-clear-end c = search needs
+part-close-end : tie.Need-part-close-end
+part-close-end c = search needs
 
-clear-requires : tie.Need-clear-requires
-clear-requires c κs = search needs
+close-requires : tie.Need-close-requires
+close-requires c κs = search needs
 
 same-length : tie.Need-same-length
 same-length c = search needs
 
 returns : tie.Need-returns
-returns c = close-back _ _ _ _ _ (c .before .before .before .before .slot-at .ensures) (c .before .before .clear .ensures)
+returns c =
+    let b = c .before .before .before .before .before .before in
+    let l = b .pre in
+    let h : slotAt (b .args .p) (b .args .s) + slotWords ≤ length (now (b .args .numbers)) = omega arith in
+    close-back (now (b .args .numbers)) _ (b .args .p) (b .args .s) _ (c .before .before .before .before .slot-at .ensures) h (c .before .before .close .ensures)
 
 pub close-at-spec : {M : Type 1} → statement M
 close-at-spec =
     tie.close
     (tie.spec
     slot-at-requires
-    add-clear
-    mul-clear
-    sub-clear
-    part-clear-start
-    part-clear-end
-    clear-requires
+    add-close
+    mul-close
+    sub-close
+    part-close-start
+    part-close-end
+    close-requires
     same-length
     returns)
