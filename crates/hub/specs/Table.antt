@@ -5,7 +5,7 @@ use mathlib.Core.Bool.{Bool}
 use mathlib.Core.List.{List}
 use mathlib.Core.Path.{_≡_}
 use Rattle.pe_reassembler.specs.Calls.{Fresh, Numbered}
-use Rattle.pe_reassembler.specs.Feed.{Memory, Fed}
+use Rattle.pe_reassembler.specs.Feed.{Memory, FeedLeft}
 use Rattle.pe_reassembler.specs.Open.{Listed, OpenList}
 use Rattle.pe_reassembler.specs.Poll.{Polled}
 use Rattle.pe_reassembler.specs.declared.shape.Shape.{Shape}
@@ -27,7 +27,7 @@ cancelledOf n = left (answerOf (asCount (n .answer))) (n .numbers)
 abbrev pub droppedOf : Numbered ℕ → Left Answer (List ℕ)
 droppedOf n = left (answerOf (n .answer)) (n .numbers)
 
-abbrev pub fedOf : Fed → Left FedAnswer Memory
+abbrev pub fedOf : FeedLeft → Left FedAnswer Memory
 fedOf f = left (fedAnswerOf (f .answer)) (f .memory)
 
 abbrev pub polledOf : Polled → Left Answer (List ℕ × List ℕ × List ℕ)

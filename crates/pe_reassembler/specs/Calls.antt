@@ -27,7 +27,8 @@ pub record Numbered (A : Type 0) : Type 0 where
 abbrev pub numbered : {A : Type 0} → Reply A → List ℕ → Numbered A
 numbered answer numbers = record { answer = answer; numbers = numbers }
 
--- "`new` leaves every record unbound under console 0FFFFFFF and every number of each transfer 0, and keeps the rooms' bytes"; the clock is 1, so that the first tick is 2
+-- "`new` leaves every record unbound under console 0FFFFFFF and every number of each transfer 0, and keeps the rooms' bytes";
+-- the clock is 1, so that the first tick is 2
 unfoldable pub freshPeers : ℕ → List ℕ
 freshPeers zero = []
 freshPeers (suc n) = 0 ∷ 0x0FFFFFFF ∷ (replicate (4 * slotWords) 0 ++ freshPeers n)

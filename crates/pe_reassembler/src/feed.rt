@@ -144,24 +144,22 @@ fn reach_slot(
     requires { ⌜ (p < shape .«max_peers») × (s < 4) × (readFields (now «data») ≡ granted (fieldsOf f)) ⌝ }
     ensures { λ r. ⌜ feedLeft (fedTold r)
         (memory (now (numbers .exit)) (now (index .exit)) (now (headers .exit)) (now (arenas .exit)) (now («out_header» .exit)) (now («out_body» .exit)))
-        ≡ slotFed shape (memory (now (numbers .entry)) (now (index .entry)) (now (headers .entry)) (now (arenas .entry)) (now («out_header» .entry)) (now («out_body» .entry)))
+        ≡ slotFed shape
+        (memory (now (numbers .entry)) (now (index .entry)) (now (headers .entry)) (now (arenas .entry)) (now («out_header» .entry)) (now («out_body» .entry)))
         p s (chunkOf (now («data» .entry)) (fieldsOf f)) (moment .«now_ms») (moment .tick) ⌝ }
 {
     let at = slot_at(p, s);
-    let records = shape.fragment_records;
-    let index_at = room_at(records, p, s);
-    let header_bytes = shape.header_bytes;
-    let header_at = room_at(header_bytes, p, s);
-    let tx_bytes = shape.tx_bytes;
-    let arena_at = room_at(tx_bytes, p, s);
+    let index_at = room_at(shape.fragment_records, p, s);
+    let header_at = room_at(shape.header_bytes, p, s);
+    let arena_at = room_at(shape.tx_bytes, p, s);
     let header_end = 3 + f.header_len;
     let start = f.property_at;
     let end = start + f.property_len;
     feed_slot(
         &mut numbers[at..at + SLOT_WORDS],
-        &mut index[index_at..index_at + records],
-        &mut headers[header_at..header_at + header_bytes],
-        &mut arenas[arena_at..arena_at + tx_bytes],
+        &mut index[index_at..index_at + shape.fragment_records],
+        &mut headers[header_at..header_at + shape.header_bytes],
+        &mut arenas[arena_at..arena_at + shape.tx_bytes],
         f.request_id,
         &data[3..header_end],
         f.num_chunks,
@@ -191,7 +189,8 @@ fn at_table(
     requires { ⌜ readFields (now «data») ≡ granted (fieldsOf f) ⌝ }
     ensures { λ r. ⌜ feedLeft (fedTold r)
         (memory (now (numbers .exit)) (now (index .exit)) (now (headers .exit)) (now (arenas .exit)) (now («out_header» .exit)) (now («out_body» .exit)))
-        ≡ atTable shape (memory (now (numbers .entry)) (now (index .entry)) (now (headers .entry)) (now (arenas .entry)) (now («out_header» .entry)) (now («out_body» .entry)))
+        ≡ atTable shape
+        (memory (now (numbers .entry)) (now (index .entry)) (now (headers .entry)) (now (arenas .entry)) (now («out_header» .entry)) (now («out_body» .entry)))
         peer (chunkOf (now («data» .entry)) (fieldsOf f)) «now_ms» ⌝ }
 {
     let Place::At(p) = record_for(shape, numbers, peer) else {
@@ -246,7 +245,8 @@ pub fn feed(
 ) -> Fed
     ensures { λ r. ⌜ feedLeft (fedTold r)
         (memory (now (numbers .exit)) (now (index .exit)) (now (headers .exit)) (now (arenas .exit)) (now («out_header» .exit)) (now («out_body» .exit)))
-        ≡ feedCall shape (memory (now (numbers .entry)) (now (index .entry)) (now (headers .entry)) (now (arenas .entry)) (now («out_header» .entry)) (now («out_body» .entry)))
+        ≡ feedCall shape
+        (memory (now (numbers .entry)) (now (index .entry)) (now (headers .entry)) (now (arenas .entry)) (now («out_header» .entry)) (now («out_body» .entry)))
         peer (now («raw_chunk» .entry)) «now_ms» ⌝ }
 {
     if !has_all(shape, numbers, index, headers, arenas, out_header, out_body) {
@@ -299,7 +299,8 @@ pub fn feed_message(
 ) -> Fed
     ensures { λ r. ⌜ feedLeft (fedTold r)
         (memory (now (numbers .exit)) (now (index .exit)) (now (headers .exit)) (now (arenas .exit)) (now («out_header» .exit)) (now («out_body» .exit)))
-        ≡ messageCall shape (memory (now (numbers .entry)) (now (index .entry)) (now (headers .entry)) (now (arenas .entry)) (now («out_header» .entry)) (now («out_body» .entry)))
+        ≡ messageCall shape
+        (memory (now (numbers .entry)) (now (index .entry)) (now (headers .entry)) (now (arenas .entry)) (now («out_header» .entry)) (now («out_body» .entry)))
         (now (body .entry)) «now_ms» ⌝ }
 {
     if !has_all(shape, numbers, index, headers, arenas, out_header, out_body) {

@@ -1,3 +1,4 @@
+use native.Mathlib.Omega.{arith}
 use mathlib.Core.Path.{sym, ap, _∙_}
 use borrow.Author.Tests.{lt-leb, le-leb}
 use Rattle.pe_frame.specs.declared.frame.ChunkRead.{ChunkRead}
@@ -55,7 +56,7 @@ same-length-12 c = search needs
 
 returns-2 : tie.Need-returns-2
 unfolding feedCall
-returns-2 c = rw (yes (c .before .before .has-all .ensures) (c .before .if1 .left), lt-leb _ _ (c .if2 .taken))
+returns-2 c = rw (yes (c .before .before .has-all .ensures) (c .before .if1 .left), lt-leb (c .before .before .before .before .before .before .before .before .before .before .before .before .before .before .before .before .args .peer) 0x0FFFFFFF (omega (arith, c .if2 .taken)))
 
 decode-fields-requires : tie.Need-decode-fields-requires
 decode-fields-requires c κs = search needs
@@ -89,7 +90,7 @@ same-length-18 c = search needs
 
 returns-3 : tie.Need-returns-3
 unfolding feedCall
-returns-3 c = rw (yes (c .before .before .before .before .before .before .has-all .ensures) (c .before .before .before .before .before .if1 .left), le-leb _ _ (c .before .before .before .before .if2 .left), sym (c .refusal-of .ensures ∙ c .before .before .before .decode-fields .ensures))
+returns-3 c = rw (yes (c .before .before .before .before .before .before .has-all .ensures) (c .before .before .before .before .before .if1 .left), le-leb (c .before .before .before .before .before .before .before .before .before .before .before .before .before .before .before .before .before .before .before .before .args .peer) 0x0FFFFFFF (omega (arith, c .before .before .before .before .if2 .left)), sym (c .refusal-of .ensures ∙ c .before .before .before .decode-fields .ensures))
 
 at-table-requires : tie.Need-at-table-requires
 at-table-requires c κs = (yes (c .before .before .before .before .before .before .before .before .before .before .before .before .has-all .ensures) (c .before .before .before .before .before .before .before .before .before .before .before .if1 .left), chunk-as (c .before .before .before .before .before .before .before .before .before .decode-fields .ensures) (c .before .before .before .before .before .before .before .read .given .1))
@@ -114,7 +115,7 @@ same-length-24 c = search needs
 
 returns-4 : tie.Need-returns-4
 unfolding feedCall
-returns-4 c = rw (yes (c .before .before .before .before .before .before .before .before .before .before .before .before .before .before .before .before .before .before .before .before .before .before .before .before .before .has-all .ensures) (c .before .before .before .before .before .before .before .before .before .before .before .before .before .before .before .before .before .before .before .before .before .before .before .before .if1 .left), le-leb _ _ (c .before .before .before .before .before .before .before .before .before .before .before .before .before .before .before .before .before .before .before .before .before .before .before .if2 .left), chunk-as (c .before .before .before .before .before .before .before .before .before .before .before .before .before .before .before .before .before .before .before .before .before .before .decode-fields .ensures) (c .before .before .before .before .before .before .before .before .before .before .before .before .before .before .before .before .before .before .before .before .read .given .1)) (c .before .before .before .before .before .before .before .before .before .before .before .before .at-table .ensures)
+returns-4 c = rw (yes (c .before .before .before .before .before .before .before .before .before .before .before .before .before .before .before .before .before .before .before .before .before .before .before .before .before .has-all .ensures) (c .before .before .before .before .before .before .before .before .before .before .before .before .before .before .before .before .before .before .before .before .before .before .before .before .if1 .left), le-leb (c .before .before .before .before .before .before .before .before .before .before .before .before .before .before .before .before .before .before .before .before .before .before .before .before .before .before .before .before .before .before .before .before .before .before .before .before .before .before .before .args .peer) 0x0FFFFFFF (omega (arith, c .before .before .before .before .before .before .before .before .before .before .before .before .before .before .before .before .before .before .before .before .before .before .before .if2 .left)), chunk-as (c .before .before .before .before .before .before .before .before .before .before .before .before .before .before .before .before .before .before .before .before .before .before .decode-fields .ensures) (c .before .before .before .before .before .before .before .before .before .before .before .before .before .before .before .before .before .before .before .before .read .given .1)) (c .before .before .before .before .before .before .before .before .before .before .before .before .at-table .ensures)
 
 pub feed-spec : {M : Type 1} → statement M
 feed-spec =

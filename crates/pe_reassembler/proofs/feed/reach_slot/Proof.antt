@@ -74,10 +74,10 @@ part-feed-slot-end : tie.Need-part-feed-slot-end
 part-feed-slot-end c = let w = fits (c .before .before .before .before .before .before .before .before .before .before .before .before .before) in let l = c .before .before .before .before .before .before .before .before .before .before .before .before .before .pre .1 .1 in let e = c .before .before .before .before .before .slot-at .ensures in search (needs, w, l, e)
 
 add-feed-slot-2 : tie.Need-add-feed-slot-2
-add-feed-slot-2 c = let i = index-lies (c .before .before .before .before .before .before .before .before .before .before .before .before .before .before) (c .before .before .before .before .before .room-at .ensures) in search (needs, i)
+add-feed-slot-2 c = let r = range (c .before .before .before .before .before .before .before .before .before .before .before .before .before .before .before) .records in let k = small (c .before .before .before .before .before .before .before .before .before .before .before .before .before .before .before) (omega (arith, r)) (c .before .before .before .before .before .before .room-at .ensures) in omega (arith, k)
 
 mul-feed-slot-2 : tie.Need-mul-feed-slot-2
-mul-feed-slot-2 c = let i = index-lies (c .before .before .before .before .before .before .before .before .before .before .before .before .before .before) (c .before .before .before .before .before .room-at .ensures) in search (needs, i)
+mul-feed-slot-2 c = let r = range (c .before .before .before .before .before .before .before .before .before .before .before .before .before .before .before) .records in let k = small (c .before .before .before .before .before .before .before .before .before .before .before .before .before .before .before) (omega (arith, r)) (c .before .before .before .before .before .before .room-at .ensures) in omega (arith, k)
 
 sub-feed-slot-2 : tie.Need-sub-feed-slot-2
 sub-feed-slot-2 c = search needs
@@ -86,10 +86,10 @@ part-feed-slot-start-2 : tie.Need-part-feed-slot-start-2
 part-feed-slot-start-2 c = search needs
 
 part-feed-slot-end-2 : tie.Need-part-feed-slot-end-2
-part-feed-slot-end-2 c = let i = index-lies (c .before .before .before .before .before .before .before .before .before .before .before .before .before .before) (c .before .before .before .before .before .room-at .ensures) in search (needs, i)
+part-feed-slot-end-2 c = let i = index-lies (c .before .before .before .before .before .before .before .before .before .before .before .before .before .before .before) (c .before .before .before .before .before .before .room-at .ensures) in search (needs, i)
 
 add-feed-slot-3 : tie.Need-add-feed-slot-3
-add-feed-slot-3 c = let r = range (c .before .before .before .before .before .before .before .before .before .before .before .before .before .before .before) .header in let k = small (c .before .before .before .before .before .before .before .before .before .before .before .before .before .before .before) (omega (arith, r)) (c .before .before .before .before .before .room-at2 .ensures) in omega (arith, k)
+add-feed-slot-3 c = let r = range (c .before .before .before .before .before .before .before .before .before .before .before .before .before .before .before .before .before) .header in let k = small (c .before .before .before .before .before .before .before .before .before .before .before .before .before .before .before .before .before) (omega (arith, r)) (c .before .before .before .before .before .before .before .room-at2 .ensures) in omega (arith, k)
 
 sub-feed-slot-3 : tie.Need-sub-feed-slot-3
 sub-feed-slot-3 c = search needs
@@ -98,10 +98,10 @@ part-feed-slot-start-3 : tie.Need-part-feed-slot-start-3
 part-feed-slot-start-3 c = search needs
 
 part-feed-slot-end-3 : tie.Need-part-feed-slot-end-3
-part-feed-slot-end-3 c = let h = headers-lie (c .before .before .before .before .before .before .before .before .before .before .before .before .before .before .before) (c .before .before .before .before .before .room-at2 .ensures) in search (needs, h)
+part-feed-slot-end-3 c = let h = headers-lie (c .before .before .before .before .before .before .before .before .before .before .before .before .before .before .before .before .before) (c .before .before .before .before .before .before .before .room-at2 .ensures) in search (needs, h)
 
 add-feed-slot-4 : tie.Need-add-feed-slot-4
-add-feed-slot-4 c = let k = small (c .before .before .before .before .before .before .before .before .before .before .before .before .before .before .before .before) (range (c .before .before .before .before .before .before .before .before .before .before .before .before .before .before .before .before) .body) (c .before .before .before .before .before .room-at3 .ensures) in omega (arith, k)
+add-feed-slot-4 c = let k = small (c .before .before .before .before .before .before .before .before .before .before .before .before .before .before .before .before .before .before .before) (range (c .before .before .before .before .before .before .before .before .before .before .before .before .before .before .before .before .before .before .before) .body) (c .before .before .before .before .before .before .before .before .room-at3 .ensures) in omega (arith, k)
 
 sub-feed-slot-4 : tie.Need-sub-feed-slot-4
 sub-feed-slot-4 c = search needs
@@ -110,7 +110,7 @@ part-feed-slot-start-4 : tie.Need-part-feed-slot-start-4
 part-feed-slot-start-4 c = search needs
 
 part-feed-slot-end-4 : tie.Need-part-feed-slot-end-4
-part-feed-slot-end-4 c = let a = arenas-lie (c .before .before .before .before .before .before .before .before .before .before .before .before .before .before .before .before) (c .before .before .before .before .before .room-at3 .ensures) in search (needs, a)
+part-feed-slot-end-4 c = let a = arenas-lie (c .before .before .before .before .before .before .before .before .before .before .before .before .before .before .before .before .before .before .before) (c .before .before .before .before .before .before .before .before .room-at3 .ensures) in search (needs, a)
 
 sub-feed-slot-5 : tie.Need-sub-feed-slot-5
 sub-feed-slot-5 c = search needs
@@ -119,7 +119,7 @@ part-feed-slot-start-5 : tie.Need-part-feed-slot-start-5
 part-feed-slot-start-5 c = search needs
 
 part-feed-slot-end-5 : tie.Need-part-feed-slot-end-5
-part-feed-slot-end-5 c = let t = read-told _ _ (c .before .before .before .before .before .before .before .before .before .before .before .before .before .before .before .before .before .pre .1 .2) .long in omega (arith, t)
+part-feed-slot-end-5 c = let t = read-told _ _ (c .before .before .before .before .before .before .before .before .before .before .before .before .before .before .before .before .before .before .before .before .pre .1 .2) .long in omega (arith, t)
 
 sub-feed-slot-6 : tie.Need-sub-feed-slot-6
 sub-feed-slot-6 c = search needs
@@ -128,7 +128,7 @@ part-feed-slot-start-6 : tie.Need-part-feed-slot-start-6
 part-feed-slot-start-6 c = search needs
 
 part-feed-slot-end-6 : tie.Need-part-feed-slot-end-6
-part-feed-slot-end-6 c = let t = read-told _ _ (c .before .before .before .before .before .before .before .before .before .before .before .before .before .before .before .before .before .before .pre .1 .2) in let l = t .long in let a = t .at in omega (arith, l, a)
+part-feed-slot-end-6 c = let t = read-told _ _ (c .before .before .before .before .before .before .before .before .before .before .before .before .before .before .before .before .before .before .before .before .before .pre .1 .2) in let l = t .long in let a = t .at in omega (arith, l, a)
 
 feed-slot-requires : tie.Need-feed-slot-requires
 feed-slot-requires c κs = search needs
@@ -153,9 +153,9 @@ same-length-6 c = search needs
 
 returns : tie.Need-returns
 returns c =
-    let b = c .before .before .before .before .before .before .before .before .before .before .before .before .before .before .before .before .before .before .before .before .before .before .before .before .before .before .before .before .before .before .before .before .before .before in
+    let b = c .before .before .before .before .before .before .before .before .before .before .before .before .before .before .before .before .before .before .before .before .before .before .before .before .before .before .before .before .before .before .before .before .before .before .before .before .before in
     feed-back (b .args .shape) (lent b) (b .args .p) (b .args .s) (chunk b) (b .args .moment .«now_ms») (b .args .moment .tick) _ _ _ _ _ _ _ _ _ _ _
-    (c .before .before .before .before .before .before .before .before .before .before .before .before .before .before .before .before .before .before .before .before .before .before .before .before .before .before .slot-at .ensures) (c .before .before .before .before .before .before .before .before .before .before .before .before .before .before .before .before .before .before .before .before .before .before .before .before .before .room-at .ensures) (c .before .before .before .before .before .before .before .before .before .before .before .before .before .before .before .before .before .before .before .before .before .before .before .before .room-at2 .ensures) (c .before .before .before .before .before .before .before .before .before .before .before .before .before .before .before .before .before .before .before .before .before .before .before .room-at3 .ensures)
+    (c .before .before .before .before .before .before .before .before .before .before .before .before .before .before .before .before .before .before .before .before .before .before .before .before .before .before .before .before .before .slot-at .ensures) (c .before .before .before .before .before .before .before .before .before .before .before .before .before .before .before .before .before .before .before .before .before .before .before .before .before .before .before .before .room-at .ensures) (c .before .before .before .before .before .before .before .before .before .before .before .before .before .before .before .before .before .before .before .before .before .before .before .before .before .before .before .room-at2 .ensures) (c .before .before .before .before .before .before .before .before .before .before .before .before .before .before .before .before .before .before .before .before .before .before .before .before .before .before .room-at3 .ensures)
     (rw (part-lent 3 (b .args .f .«header_len») (now (b .args .data)), part-lent (b .args .f .«property_at») (b .args .f .«property_len») (now (b .args .data))) at (c .before .before .before .before .before .before .before .before .before .before .before .before .feed-slot .ensures))
 
 pub reach-slot-spec : {M : Type 1} → statement M
