@@ -13,7 +13,7 @@ use Rattle.midici_core.specs.Message.{Message, readMessage}
 use Rattle.pe_frame.specs.Chunk.{Fields, readFields, chunkOf}
 use Rattle.pe_frame.proofs.RoundTrip.{read-in-range}
 use Rattle.pe_reassembler.specs.Table.{inRange, hasNumbers, hasRooms, isMuid}
-use Rattle.pe_reassembler.specs.Feed.{Fed, fed, atTable, chunkRead, hasAll, feedCall, messageRead, messageCall}
+use Rattle.pe_reassembler.specs.Feed.{FeedLeft, feedLeft, atTable, chunkRead, hasAll, feedCall, messageRead, messageCall}
 use Rattle.pe_reassembler.specs.Poll.{Timeout, dueFrom, sorted, closeDue, polled, pollCall}
 use Rattle.pe_reassembler.specs.Open.{Shown, listed, openCall}
 use Rattle.pe_run.specs.Calls.{Arrival, arriving, hasOutputs, fedArrival, messageArrival, hasPlaces}
@@ -21,9 +21,9 @@ use Rattle.pe_run.specs.Demand.{LongEnough}
 use Rattle.pe_run.specs.Run.{Table, fullSize, lent}
 
 -- a chunk that arrives reaches the table; a refusal changes nothing
-abbrev pub reached : ℕ → Table → List ℕ → List ℕ → Reply Arrival → Fed
+abbrev pub reached : ℕ → Table → List ℕ → List ℕ → Reply Arrival → FeedLeft
 reached n t out-header out-body (granted a) = atTable (fullSize n) (lent t out-header out-body) (a .peer) (a .chunk) (a .time)
-reached n t out-header out-body (refused number value) = fed (refused number value) (lent t out-header out-body)
+reached n t out-header out-body (refused number value) = feedLeft (refused number value) (lent t out-header out-body)
 
 module _ (n : ℕ) (t : Table) (few : n ≤ 16) (long : LongEnough n t) where
   -- ---- question 30
@@ -57,8 +57,8 @@ module _ (n : ℕ) (t : Table) (few : n ≤ 16) (long : LongEnough n t) where
     feed-ahead peer chunk = rw (all-asked out-header out-body) (go (hasOutputs out-header out-body) (isMuid peer))
       where
         go : (outputs muid : Bool)
-            → cond outputs (cond muid (chunkRead (readFields chunk) (fullSize n) (lent t out-header out-body) peer chunk now-ms) (fed (refused 28 0) (lent t out-header out-body)))
-            (fed (refused 30 0) (lent t out-header out-body))
+            → cond outputs (cond muid (chunkRead (readFields chunk) (fullSize n) (lent t out-header out-body) peer chunk now-ms) (feedLeft (refused 28 0) (lent t out-header out-body)))
+            (feedLeft (refused 30 0) (lent t out-header out-body))
             ≡ reached n t out-header out-body (cond outputs (cond muid (arriving peer chunk now-ms) (refused 28 0)) (refused 30 0))
         go true true = read-ahead (readFields chunk) peer chunk
         go true false = refl
@@ -70,7 +70,7 @@ module _ (n : ℕ) (t : Table) (few : n ≤ 16) (long : LongEnough n t) where
     message-ahead message = rw (all-asked out-header out-body) (go (hasOutputs out-header out-body) (readMessage message))
       where
         go : (outputs : Bool) (r : Reply Message)
-            → cond outputs (messageRead r (fullSize n) (lent t out-header out-body) message now-ms) (fed (refused 30 0) (lent t out-header out-body))
+            → cond outputs (messageRead r (fullSize n) (lent t out-header out-body) message now-ms) (feedLeft (refused 30 0) (lent t out-header out-body))
             ≡ reached n t out-header out-body (cond outputs (andThen r (λ (m : Message). arriving (m .header .source) (drop 13 message) now-ms)) (refused 30 0))
         go true (granted m) = read-ahead (readFields (drop 13 message)) (m .header .source) (drop 13 message)
         go true (refused number value) = refl

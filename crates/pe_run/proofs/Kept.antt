@@ -12,7 +12,7 @@ use Rattle.seven_bit.proofs.ReplyLaws.{both}
 use Rattle.pe_slot.specs.Slot.{Event}
 use Rattle.pe_slot.specs.Feed.{Told, toldAnswer, outHeader, outBody}
 use Rattle.pe_reassembler.specs.Calls.{cancelCall, dropCall}
-use Rattle.pe_reassembler.specs.Feed.{Fed, feedCall, messageCall}
+use Rattle.pe_reassembler.specs.Feed.{FeedLeft, feedCall, messageCall}
 use Rattle.pe_reassembler.specs.Poll.{pollCall}
 use Rattle.pe_reassembler.specs.Table.{isMuid}
 use Rattle.pe_reassembler.proofs.SoundLaws.{SlotsSound, sound-new, sound-feed, sound-message, sound-cancel, sound-drop, sound-poll}
@@ -54,7 +54,7 @@ record Stepped (n : ℕ) (t : Table) (b : Model) : Type 0 where
 module _ (n : ℕ) (t : Table) (b : Model) (few : n ≤ 16) (k : Kept n t b) where
   -- ---- what arrives, or is refused ahead
   module _ (out-header out-body : List ℕ) where
-    told-same : (r : Fed) (x y : Reply Event) → x ≡ y → r .answer ≡ toldAnswer x → r .memory .out-header ≡ outHeader x out-header → r .memory .out-body ≡ outBody x out-body
+    told-same : (r : FeedLeft) (x y : Reply Event) → x ≡ y → r .answer ≡ toldAnswer x → r .memory .out-header ≡ outHeader x out-header → r .memory .out-body ≡ outBody x out-body
         → fedAnswer r ≡ fed (toldAnswer y) (outHeader y out-header) (outBody y out-body)
     told-same r x y e f g h = rw (f, g, h, e)
 
@@ -87,7 +87,7 @@ module _ (n : ℕ) (t : Table) (b : Model) (few : n ≤ 16) (k : Kept n t b) whe
       → Kept n (step n t (feed peer chunk now-ms out-header out-body)) (after n b (actOf n (feed peer chunk now-ms out-header out-body)))
   feed-kept peer chunk now-ms out-header out-body =
       with-sound _ _ (sound-feed (fullSize n) (lent t out-header out-body) (k .sound) peer chunk now-ms)
-      (subst (λ (r : Fed). Stepped n (kept r) (after n b (arrivalAct (grantedOf (fedArrival peer chunk now-ms out-header out-body)))))
+      (subst (λ (r : FeedLeft). Stepped n (kept r) (after n b (arrivalAct (grantedOf (fedArrival peer chunk now-ms out-header out-body)))))
       (sym (feed-ahead n t few (k .long) out-header out-body now-ms peer chunk))
       (reached-stepped out-header out-body (fedArrival peer chunk now-ms out-header out-body) (λ a q. fed-small now-ms out-header out-body a peer chunk q)))
 
@@ -95,7 +95,7 @@ module _ (n : ℕ) (t : Table) (b : Model) (few : n ≤ 16) (k : Kept n t b) whe
       → Kept n (step n t (feed-message message now-ms out-header out-body)) (after n b (actOf n (feed-message message now-ms out-header out-body)))
   message-kept message now-ms out-header out-body =
       with-sound _ _ (sound-message (fullSize n) (lent t out-header out-body) (k .sound) message now-ms)
-      (subst (λ (r : Fed). Stepped n (kept r) (after n b (arrivalAct (grantedOf (messageArrival message now-ms out-header out-body)))))
+      (subst (λ (r : FeedLeft). Stepped n (kept r) (after n b (arrivalAct (grantedOf (messageArrival message now-ms out-header out-body)))))
       (sym (message-ahead n t few (k .long) out-header out-body now-ms message))
       (reached-stepped out-header out-body (messageArrival message now-ms out-header out-body) (λ a q. message-small now-ms out-header out-body a message q)))
 

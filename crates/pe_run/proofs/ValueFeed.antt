@@ -11,11 +11,11 @@ use Rattle.seven_bit.specs.Reply.{granted, refused}
 use Rattle.pe_frame.specs.Chunk.{Chunk, Fields, readFields, chunkOf}
 use Rattle.pe_frame.proofs.RoundTrip.{read-told}
 use Rattle.pe_wire.proofs.RoundTrip.{read-small}
-use Rattle.pe_slot.specs.Feed.{SlotLeft, feedSlot, toldAnswer, outHeader, outBody}
+use Rattle.pe_slot.specs.Feed.{SlotLeft, reachedSlot, toldAnswer, outHeader, outBody}
 use Rattle.pe_reassembler.specs.Table.{hasRooms, recordFor, slotFor}
-use Rattle.pe_reassembler.specs.Feed.{Memory, Fed, fed, nextTick, wordsPart, roomPart, lifted, reach, inSlot, inRecord, atTable}
+use Rattle.pe_reassembler.specs.Feed.{Memory, FeedLeft, feedLeft, nextTick, wordsPart, roomPart, lifted, reach, inSlot, inRecord, atTable}
 use Rattle.pe_reassembler.proofs.TableLaws.{record-for-below, slot-for-below}
-use Rattle.pe_reassembler.proofs.SlotLengths.{words-length, records-length, header-length, arena-length, fed-sized}
+use Rattle.pe_reassembler.proofs.SlotLengths.{words-length, records-length, header-length, arena-length, reached-sized}
 use Rattle.pe_reassembler.proofs.SoundLaws.{SlotsSound}
 use Rattle.pe_reassembler.proofs.Effects.{Sized as AfterSized, lifted-words, lifted-index, lifted-header, lifted-arena, lifted-words-other, lifted-index-other, lifted-header-other, lifted-arena-other, lifted-bound, lifted-muid, lifted-peer-other, lifted-clock, lifted-lengths}
 use Rattle.pe_run.specs.Model.{touchedAt, Judged, judged}
@@ -82,7 +82,7 @@ module _ (n : ℕ) (t : Table) (out-header out-body : List ℕ) (peer p s : ℕ)
       }
 
 -- the call on memory is the value's call
-pub record FeedValue (n : ℕ) (out-header out-body : List ℕ) (taken : Taken) (r : Fed) : Type 0 where
+pub record FeedValue (n : ℕ) (out-header out-body : List ℕ) (taken : Taken) (r : FeedLeft) : Type 0 where
   pub value-is : valueOf n (kept r) ≡ taken .value
   pub answer-is : r .answer ≡ toldAnswer (taken .answer)
   pub out-header-is : r .memory .out-header ≡ outHeader (taken .answer) out-header
@@ -100,7 +100,7 @@ module _ (n : ℕ) (t : Table) (out-header out-body : List ℕ) (peer : ℕ) (c 
 
   module _ (p s : ℕ) (hp : p < n) (hs : s < 4) where
     abbrev a : SlotLeft
-    a = feedSlot (wordsPart (t .numbers) p s) (roomPart 2048 (t .index) p s) (roomPart 4096 (t .headers) p s) (roomPart 65536 (t .arenas) p s)
+    a = reachedSlot (wordsPart (t .numbers) p s) (roomPart 2048 (t .index) p s) (roomPart 4096 (t .headers) p s) (roomPart 65536 (t .arenas) p s)
         c now-ms (nextTick (getD (t .numbers) 0 0)) out-header out-body
 
     abbrev cell : Cell
@@ -128,12 +128,12 @@ module _ (n : ℕ) (t : Table) (out-header out-body : List ℕ) (peer : ℕ) (c 
 
     reach-is : reach (fullSize n) m₀ peer c now-ms p s ≡ lifted (fullSize n) m₀ peer p s a
     unfolding reach
-    reach-is = ap (λ (b : Bool). cond b (lifted (fullSize n) m₀ peer p s a) (fed (refused 31 0) m₀)) (sound .each p s hp hs .sound)
+    reach-is = ap (λ (b : Bool). cond b (lifted (fullSize n) m₀ peer p s a) (feedLeft (refused 31 0) m₀)) (sound .each p s hp hs .sound)
 
     there : FeedValue n out-header out-body (takeCell v peer c now-ms p (recAt t p) s) (lifted (fullSize n) m₀ peer p s a)
     unfolding lifted takeCell valueOf
     there =
-        let size : AfterSized (fullSize n) a = fed-sized (fullSize n) m₀ p s (rooms-asked n t few long) hp hs c now-ms (nextTick (getD (t .numbers) 0 0)) out-header out-body in
+        let size : AfterSized (fullSize n) a = reached-sized (fullSize n) m₀ p s (rooms-asked n t few long) hp hs c now-ms (nextTick (getD (t .numbers) 0 0)) out-header out-body (sound .each p s hp hs .sound) in
         let o = fed-told _ _ _ _ c now-ms (nextTick (getD (t .numbers) 0 0)) out-header out-body sized (sound .each p s hp hs) header-room body-room short named in
         let q = fed-cell _ _ _ _ c now-ms (nextTick (getD (t .numbers) 0 0)) out-header out-body sized (sound .each p s hp hs) header-room body-room short named in
         record {
@@ -162,7 +162,7 @@ module _ (n : ℕ) (t : Table) (out-header out-body : List ℕ) (peer : ℕ) (c 
   in-record none e = record { value-is = refl; answer-is = refl; out-header-is = refl; out-body-is = refl; long = long }
   in-record (some p) e =
       let hp = record-for-below (fullSize n) (t .numbers) peer p e in
-      let r : Fed = inSlot (slotFor (t .numbers) p (c .request-id)) (fullSize n) m₀ peer c now-ms p in
+      let r : FeedLeft = inSlot (slotFor (t .numbers) p (c .request-id)) (fullSize n) m₀ peer c now-ms p in
       subst (λ (x : Rec). FeedValue n out-header out-body (takeRec v peer c now-ms p x (chooseCell (c .request-id) (x .cells))) r) (sym (rec-at t n p hp))
       (subst (λ (o : Option ℕ). FeedValue n out-header out-body (takeRec v peer c now-ms p (recAt t p) o) r) (slot-for-is t p (c .request-id))
       (in-slot p hp (slotFor (t .numbers) p (c .request-id)) refl))

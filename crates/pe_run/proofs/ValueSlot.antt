@@ -6,7 +6,7 @@ use mathlib.Core.List.{List, []}
 use mathlib.Core.Logic.{_⊎_, inl, inr}
 use mathlib.Core.Option.{none, some}
 use mathlib.Core.Path.{_≡_, refl, sym, ap, _∙_}
-use borrow.Author.Tests.{le-leb, eqb-true}
+use borrow.Author.Tests.{eqb-true}
 use lib.Dec.{leb, eqb}
 use lib.ListN.{length, getD, take}
 use Rattle.seven_bit.proofs.ReplyLaws.{both, and-told}
@@ -14,7 +14,7 @@ use Rattle.pe_frame.specs.Chunk.{Chunk}
 use Rattle.pe_slot.specs.declared.layout.TxSlot.{TxSlot}
 use Rattle.pe_slot.specs.Slot.{Slot, Verdict, judge, slotAfter}
 use Rattle.pe_slot.specs.Memory.{slotOf, wordsOf, piecesOf, contents, endsAt, isEnd, isSound}
-use Rattle.pe_slot.specs.Feed.{SlotLeft, touched, grown, closedSlot, toldAnswer, outHeader, outBody, placed, isShaped, feedSlot}
+use Rattle.pe_slot.specs.Feed.{SlotLeft, touched, grown, closedSlot, toldAnswer, outHeader, outBody, placed, reachedSlot}
 use Rattle.pe_slot.proofs.FeedTheorems.{memory-follows, opened}
 use Rattle.pe_reassembler.proofs.SoundLaws.{SlotSound}
 use Rattle.pe_run.specs.Model.{Open, touchedAt, Judged, judged}
@@ -103,15 +103,13 @@ module _ (words index header arena : List ℕ) (c : Chunk) (now-ms tick : ℕ) (
   verdict = judge 4096 65536 2048 held c
 
   abbrev fed : SlotLeft
-  fed = feedSlot words index header arena c now-ms tick out-header out-body
+  fed = reachedSlot words index header arena c now-ms tick out-header out-body
 
   abbrev left : SlotLeft
   left = placed (touched (slotOf words) (c .request-id) now-ms tick) index header arena c verdict out-header out-body
 
   fed-is : fed ≡ left
-  unfolding feedSlot isShaped
-  fed-is =
-      rw (size .words-size, size .index-size, size .header-size, size .arena-size, neat .sound, le-leb _ _ header-room, le-leb _ _ body-room, le-leb _ _ short)
+  fed-is = rw (size .index-size, size .header-size, size .arena-size)
 
   follows : verdict .closes ≡ false → contents (slotOf (left .words)) (left .index) (left .header) (left .arena) ≡ slotAfter held c verdict
   unfolding contents

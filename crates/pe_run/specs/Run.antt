@@ -5,7 +5,7 @@ use Prim.Native.Nat.{ℕ}
 use mathlib.Core.List.{List, [], _∷_}
 use mathlib.Core.Path.{_≡_}
 use Rattle.pe_reassembler.specs.declared.shape.Shape.{Shape}
-use Rattle.pe_reassembler.specs.Feed.{Memory, memory, Fed, feedCall, messageCall}
+use Rattle.pe_reassembler.specs.Feed.{Memory, memory, FeedLeft, feedCall, messageCall}
 use Rattle.pe_reassembler.specs.Calls.{newCall, cancelCall, dropCall, statsCall, reservedCall}
 use Rattle.pe_reassembler.specs.Poll.{pollCall}
 use Rattle.pe_reassembler.specs.Open.{Listed, OpenList}
@@ -34,7 +34,7 @@ made n t =
 abbrev pub lent : Table → List ℕ → List ℕ → Memory
 lent t out-header out-body = memory (t .numbers) (t .index) (t .headers) (t .arenas) out-header out-body
 
-abbrev pub kept : Fed → Table
+abbrev pub kept : FeedLeft → Table
 kept r = table (r .memory .numbers) (r .memory .index) (r .memory .headers) (r .memory .arenas)
 
 abbrev pub renumbered : Table → List ℕ → Table
@@ -56,7 +56,7 @@ tableFrom n t [] = t
 tableFrom n t (c ∷ calls) = tableFrom n (step n t c) calls
 
 -- Is it an answer that the call's contract allows?
-abbrev pub fedAnswer : Fed → Answer
+abbrev pub fedAnswer : FeedLeft → Answer
 fedAnswer r = fed (r .answer) (r .memory .out-header) (r .memory .out-body)
 
 pub record Lists (n : ℕ) (t : Table) (out-peers out-ids out-held : List ℕ) (a : Answer) : Type 0 where
