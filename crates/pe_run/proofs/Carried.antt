@@ -14,7 +14,7 @@ use Rattle.midici_core.specs.Message.{readMessage}
 use Rattle.pe_frame.specs.Chunk.{Chunk, readFields}
 use Rattle.pe_reassembler.specs.Table.{isMuid}
 use Rattle.pe_run.specs.Model.{Model, Act, arrive, cancel as cancelled, drop as dropped, poll as polled, nothing}
-use Rattle.pe_run.specs.Calls.{Call, feed, feed-message, cancel, drop-peer, poll, memory-stats, reserved-bytes, open-list, Answer, Arrival, arriving, hasOutputs, fedArrival, messageArrival, grantedOf, arrivalOf, arrivalAct, hasPlaces, actOf, arrivalAnswer, Right}
+use Rattle.pe_run.specs.Calls.{fedArrivalIn, messageArrivalIn, Call, feed, feed-message, cancel, drop-peer, poll, memory-stats, reserved-bytes, open-list, Answer, Arrival, arriving, hasOutputs, fedArrival, messageArrival, grantedOf, arrivalOf, arrivalAct, hasPlaces, actOf, arrivalAnswer, Right}
 use Rattle.pe_run.specs.Demand.{isUnder, isOurs, ours, bytesOf, arrivals, answersTo, outputs, Spared}
 use Rattle.pe_run.proofs.ListLaws.{never}
 use Rattle.pe_run.proofs.Chunks.{chunkIn, chunk-in}
@@ -46,7 +46,7 @@ arriving-chunk peer bytes now-ms a q =
 
 -- what an arrival's bytes say is its chunk
 arrival-chunk : (c : Call) (a : Arrival) → arrivalOf c ≡ some a → chunkIn (a .bytes) ≡ a .chunk
-unfolding fedArrival messageArrival
+unfolding fedArrivalIn messageArrivalIn
 arrival-chunk (feed peer chunk now-ms out-header out-body) a q =
     let e = granted-of (fedArrival peer chunk now-ms out-header out-body) a q in
     let s = asked (hasOutputs out-header out-body) 30 _ a e in

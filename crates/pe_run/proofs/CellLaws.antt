@@ -22,7 +22,7 @@ use Rattle.pe_reassembler.proofs.SoundLaws.{SlotSound}
 use Rattle.pe_run.specs.Model.{Entry, Model, entryOf}
 use Rattle.pe_run.specs.Calls.{headerLen, entryBytes}
 use Rattle.pe_run.specs.Demand.{LongEnough}
-use Rattle.pe_run.specs.Run.{Table}
+use Rattle.pe_run.specs.Run.{Table, fullSize}
 use Rattle.pe_run.proofs.Value.{cellOf, cellAt, cellOpen}
 
 -- ---- the open entry
@@ -58,9 +58,9 @@ open-cell peer words index header arena = go (eqb (getD words 0 0) 0) (getD word
     go true request-id time slot = refl
     go false request-id time slot = refl
 
-pub cell-open : (t : Table) (p s : ℕ) → cellOpen (peerIn t p) (cellAt t p s) ≡ cond (isActive (t .numbers) p s) (entryAt t p s ∷ []) []
+pub cell-open : (n : ℕ) (t : Table) (p s : ℕ) → cellOpen (peerIn t p) (cellAt (fullSize n) t p s) ≡ cond (isActive (t .numbers) p s) (entryAt t p s ∷ []) []
 unfolding cellAt isActive
-cell-open t p s =
+cell-open n t p s =
     let w : List ℕ = wordsPart (t .numbers) p s in
     let x : Slot = entryAt t p s .state .slot in
     let z : slotAt p s + 0 ≡ slotAt p s = omega arith in

@@ -22,8 +22,8 @@ use Rattle.pe_chunker.proofs.CutLaws.{budget-between}
 use Rattle.pe_chunker.proofs.Theorems.{fields-in-range, budget-is-room}
 use Rattle.pe_reassembler.specs.Open.{Perm, swap}
 use Rattle.pe_reassembler.specs.Table.{isMuid}
-use Rattle.pe_run.specs.Model.{findsRecord, hasFour, judged, arrives}
-use Rattle.pe_run.specs.Calls.{Call, feed, feed-message, cancel, drop-peer, poll, memory-stats, Arrival, hasOutputs, fedArrival, messageArrival, modelAfter}
+use Rattle.pe_run.specs.Model.{findsRecord, hasFour, judgedAt, arrives}
+use Rattle.pe_run.specs.Calls.{Call, feed, feed-message, cancel, drop-peer, poll, memory-stats, Arrival, hasOutputs, fedArrival, fedArrivalIn, messageArrival, messageArrivalIn, modelAfter}
 use Rattle.pe_run.specs.Demand.{CutInto, ours, arrivals, Room, Spared, actsOf, Delivery}
 
 -- ---- outputs of full size
@@ -50,7 +50,7 @@ arrival peer c now-ms = record { peer = peer; bytes = chunkBytes c; chunk = c; t
 
 fed-arrives : (peer : ℕ) (c : Chunk) (now-ms : ℕ) → isMuid peer ≡ true → InRange c
     → fedArrival peer (chunkBytes c) now-ms out-header out-body ≡ granted (arrival peer c now-ms)
-unfolding fedArrival
+unfolding fedArrivalIn
 fed-arrives peer c now-ms m r = rw (long-enough, m, bytes-read c r, bytes-chunk c) refl
 
 -- ---- the list
@@ -106,7 +106,7 @@ pub message : List ℕ
 message = headerBytes (headerFor 0x34 9 7) ++ chunkBytes one
 
 message-arrives : messageArrival message 9000 out-header out-body ≡ granted (arrival 9 one 9000)
-unfolding messageArrival message writeWhole within28 carriesChunk chunkLen
+unfolding messageArrivalIn message writeWhole within28 carriesChunk chunkLen
 message-arrives =
     let w : writeWhole 0x34 9 7 one 4096 ≡ granted message = ask-yes one _ one-in-range in
     let r = whole-then-read 0x34 9 7 one 4096 message w in
@@ -155,14 +155,14 @@ arrives-9 : fedArrival 9 (chunkBytes (other 6 1)) 200 out-header out-body ≡ gr
 arrives-9 = fed-arrives 9 (other 6 1) 200 refl (other-in-range 6 1 (omega arith) (omega arith))
 
 instance-room : Room 2 9 5 (modelAfter 2 before)
-unfolding arrives findsRecord hasFour judged judge headerFits headerAgrees sameHeader countAgrees newHeader newCount isNone held bodyLen afterChunk passed isWhole allHeld eventOf
+unfolding arrives findsRecord hasFour judgedAt judge headerFits headerAgrees sameHeader countAgrees newHeader newCount isNone held bodyLen afterChunk passed isWhole allHeld eventOf
 instance-room =
     rw (arrives-before-8, arrives-before-9)
     (record { record-found = refl; not-open = refl; fewer = omega arith })
 
 -- peer 9's chunk of request id 6 is held already
 pub duplicate-refused : arrives 2 (modelAfter 2 (before ++ (first ∷ feed 8 (chunkBytes (other 5 2)) 150 out-header out-body ∷ []))) 9 (other 6 1) 200 .answer ≡ refused 8 0
-unfolding arrives findsRecord hasFour judged judge headerFits headerAgrees sameHeader eqList countAgrees newHeader newCount isNone held bodyLen afterChunk passed isWhole allHeld eventOf
+unfolding arrives findsRecord hasFour judgedAt judge headerFits headerAgrees sameHeader eqList countAgrees newHeader newCount isNone held bodyLen afterChunk passed isWhole allHeld eventOf
 duplicate-refused = rw (arrives-before-8, arrives-before-9, arrives-first, arrives-8) refl
 
 instance-once : Perm (arrivals (ours 9 5 (first ∷ rest))) (chunkBytes one ∷ chunkBytes two ∷ [])

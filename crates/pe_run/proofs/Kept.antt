@@ -25,7 +25,7 @@ use Rattle.pe_run.proofs.Value.{Value, valueOf, cancels, drops}
 use Rattle.pe_run.proofs.Refine.{Rel, fresh-rel}
 use Rattle.pe_run.proofs.Takes.{take-rel}
 use Rattle.pe_run.proofs.Closes.{cancel-rel, drop-rel, poll-rel, cancels-are, drops-are}
-use Rattle.pe_run.proofs.Ahead.{rooms-asked, reached, feed-ahead, message-ahead, Small, fed-small, message-small}
+use Rattle.pe_run.proofs.Ahead.{roomy-long, long-roomy, reached, feed-ahead, message-ahead, Small, fed-small, message-small}
 use Rattle.pe_run.proofs.ValueFeed.{feed-value}
 use Rattle.pe_run.proofs.ValueCalls.{cancel-value, cancel-refused, drop-value, drop-refused}
 use Rattle.pe_run.proofs.ValuePoll.{poll-value, poll-refused}
@@ -36,20 +36,20 @@ use Rattle.pe_run.proofs.Listings.{poll-right, list-right, stats-right,
 pub record Kept (n : ℕ) (t : Table) (b : Model) : Type 0 where
   pub long : LongEnough n t
   pub sound : SlotsSound (fullSize n) (t .numbers) (t .index)
-  pub rel : Rel n (valueOf n t) b
+  pub rel : Rel n (valueOf (fullSize n) t) b
 
-pub kept-new : (n : ℕ) (t : Table) → n ≤ 16 → LongEnough n t → Kept n (made n t) []
+pub kept-new : (n : ℕ) (t : Table) → n ≤ 16 → LongEnough n t → Kept n (made (fullSize n) t) []
 kept-new n t few long =
     record {
-      long = new-long n t few long;
-      sound = sound-new (fullSize n) (t .numbers) (t .index) (t .headers) (t .arenas) (rooms-asked n t few long);
-      rel = subst (λ (v : Value). Rel n v []) (sym (new-value n t few long)) (fresh-rel n);
+      long = long-roomy n (made (fullSize n) t) (new-long (fullSize n) t (roomy-long n t few long));
+      sound = sound-new (fullSize n) (t .numbers) (t .index) (t .headers) (t .arenas) (roomy-long n t few long);
+      rel = subst (λ (v : Value). Rel n v []) (sym (new-value (fullSize n) t (roomy-long n t few long))) (fresh-rel n);
     }
 
 -- the part of it that a call's own slots do not settle, and the answer
 record Stepped (n : ℕ) (t : Table) (b : Model) : Type 0 where
   long : LongEnough n t
-  rel : Rel n (valueOf n t) b
+  rel : Rel n (valueOf (fullSize n) t) b
 
 module _ (n : ℕ) (t : Table) (b : Model) (few : n ≤ 16) (k : Kept n t b) where
   -- ---- what arrives, or is refused ahead
@@ -58,25 +58,25 @@ module _ (n : ℕ) (t : Table) (b : Model) (few : n ≤ 16) (k : Kept n t b) whe
         → fedAnswer r ≡ fed (toldAnswer y) (outHeader y out-header) (outBody y out-body)
     told-same r x y e f g h = rw (f, g, h, e)
 
-    reached-stepped : (r : Reply Arrival) → ((a : Arrival) → r ≡ granted a → Small out-header out-body a)
-        → Stepped n (kept (reached n t out-header out-body r)) (after n b (arrivalAct (grantedOf r)))
+    reached-stepped : (r : Reply Arrival) → ((a : Arrival) → r ≡ granted a → Small (fullSize n) out-header out-body a)
+        → Stepped n (kept (reached (fullSize n) t out-header out-body r)) (after n b (arrivalAct (grantedOf r)))
     reached-stepped (granted a) small =
         let s = small a refl in
         let w = s .number in
-        let v = feed-value n t out-header out-body (a .peer) (a .chunk) (a .time) few (k .long) (k .sound) (s .header-room) (s .body-room) (s .property) (omega arith) in
+        let v = feed-value (fullSize n) t out-header out-body (a .peer) (a .chunk) (a .time) (roomy-long n t few (k .long)) (k .sound) (s .header-room) (s .body-room) (s .property) (omega arith) in
         record {
-          long = v .long;
+          long = long-roomy n _ (v .long);
           rel = subst (λ (x : Value). Rel n x (arrives n b (a .peer) (a .chunk) (a .time) .model)) (sym (v .value-is)) (take-rel (k .rel) (a .peer) (a .chunk) (a .time) .rel);
         }
     reached-stepped (refused number value) small = record { long = k .long; rel = k .rel }
 
-    reached-right : (r : Reply Arrival) → ((a : Arrival) → r ≡ granted a → Small out-header out-body a)
-        → fedAnswer (reached n t out-header out-body r) ≡ arrivalAnswer n b r out-header out-body
+    reached-right : (r : Reply Arrival) → ((a : Arrival) → r ≡ granted a → Small (fullSize n) out-header out-body a)
+        → fedAnswer (reached (fullSize n) t out-header out-body r) ≡ arrivalAnswer n b r out-header out-body
     reached-right (granted a) small =
         let s = small a refl in
         let w = s .number in
-        let v = feed-value n t out-header out-body (a .peer) (a .chunk) (a .time) few (k .long) (k .sound) (s .header-room) (s .body-room) (s .property) (omega arith) in
-        told-same (reached n t out-header out-body (granted a)) _ _ (take-rel (k .rel) (a .peer) (a .chunk) (a .time) .answer-is) (v .answer-is) (v .out-header-is) (v .out-body-is)
+        let v = feed-value (fullSize n) t out-header out-body (a .peer) (a .chunk) (a .time) (roomy-long n t few (k .long)) (k .sound) (s .header-room) (s .body-room) (s .property) (omega arith) in
+        told-same (reached (fullSize n) t out-header out-body (granted a)) _ _ (take-rel (k .rel) (a .peer) (a .chunk) (a .time) .answer-is) (v .answer-is) (v .out-header-is) (v .out-body-is)
     reached-right (refused number value) small = refl
 
   with-sound : (t′ : Table) (b′ : Model) → SlotsSound (fullSize n) (t′ .numbers) (t′ .index) → Stepped n t′ b′ → Kept n t′ b′
@@ -84,43 +84,43 @@ module _ (n : ℕ) (t : Table) (b : Model) (few : n ≤ 16) (k : Kept n t b) whe
 
   -- ---- every call keeps it
   feed-kept : (peer : ℕ) (chunk : List ℕ) (now-ms : ℕ) (out-header out-body : List ℕ)
-      → Kept n (step n t (feed peer chunk now-ms out-header out-body)) (after n b (actOf n (feed peer chunk now-ms out-header out-body)))
+      → Kept n (step (fullSize n) t (feed peer chunk now-ms out-header out-body)) (after n b (actOf n (feed peer chunk now-ms out-header out-body)))
   feed-kept peer chunk now-ms out-header out-body =
       with-sound _ _ (sound-feed (fullSize n) (lent t out-header out-body) (k .sound) peer chunk now-ms)
       (subst (λ (r : Fed). Stepped n (kept r) (after n b (arrivalAct (grantedOf (fedArrival peer chunk now-ms out-header out-body)))))
-      (sym (feed-ahead n t few (k .long) out-header out-body now-ms peer chunk))
-      (reached-stepped out-header out-body (fedArrival peer chunk now-ms out-header out-body) (λ a q. fed-small now-ms out-header out-body a peer chunk q)))
+      (sym (feed-ahead (fullSize n) t (roomy-long n t few (k .long)) out-header out-body now-ms peer chunk))
+      (reached-stepped out-header out-body (fedArrival peer chunk now-ms out-header out-body) (λ a q. fed-small (fullSize n) now-ms out-header out-body a peer chunk q)))
 
   message-kept : (message : List ℕ) (now-ms : ℕ) (out-header out-body : List ℕ)
-      → Kept n (step n t (feed-message message now-ms out-header out-body)) (after n b (actOf n (feed-message message now-ms out-header out-body)))
+      → Kept n (step (fullSize n) t (feed-message message now-ms out-header out-body)) (after n b (actOf n (feed-message message now-ms out-header out-body)))
   message-kept message now-ms out-header out-body =
       with-sound _ _ (sound-message (fullSize n) (lent t out-header out-body) (k .sound) message now-ms)
       (subst (λ (r : Fed). Stepped n (kept r) (after n b (arrivalAct (grantedOf (messageArrival message now-ms out-header out-body)))))
-      (sym (message-ahead n t few (k .long) out-header out-body now-ms message))
-      (reached-stepped out-header out-body (messageArrival message now-ms out-header out-body) (λ a q. message-small now-ms out-header out-body a message q)))
+      (sym (message-ahead (fullSize n) t (roomy-long n t few (k .long)) out-header out-body now-ms message))
+      (reached-stepped out-header out-body (messageArrival message now-ms out-header out-body) (λ a q. message-small (fullSize n) now-ms out-header out-body a message q)))
 
   cancel-stepped : (peer request-id : ℕ) → (isMuid peer ≡ true) ⊎ (isMuid peer ≡ false)
-      → Stepped n (step n t (cancel peer request-id)) (after n b (actOf n (cancel peer request-id)))
+      → Stepped n (step (fullSize n) t (cancel peer request-id)) (after n b (actOf n (cancel peer request-id)))
   cancel-stepped peer request-id (inl e) =
-      let v = cancel-value n t peer request-id few (k .long) e in
-      rw e (record { long = v .long; rel = subst (λ (x : Value). Rel n x (after n b (Acts.cancel peer request-id))) (sym (v .value-is)) (cancel-rel (k .rel) peer request-id) })
-  cancel-stepped peer request-id (inr e) = rw (e, cancel-refused n t peer request-id few (k .long) e) (record { long = k .long; rel = k .rel })
+      let v = cancel-value (fullSize n) t peer request-id (roomy-long n t few (k .long)) e in
+      rw e (record { long = long-roomy n _ (v .long); rel = subst (λ (x : Value). Rel n x (after n b (Acts.cancel peer request-id))) (sym (v .value-is)) (cancel-rel (k .rel) peer request-id) })
+  cancel-stepped peer request-id (inr e) = rw (e, cancel-refused (fullSize n) t peer request-id (roomy-long n t few (k .long)) e) (record { long = k .long; rel = k .rel })
 
-  drop-stepped : (peer : ℕ) → (isMuid peer ≡ true) ⊎ (isMuid peer ≡ false) → Stepped n (step n t (drop-peer peer)) (after n b (actOf n (drop-peer peer)))
+  drop-stepped : (peer : ℕ) → (isMuid peer ≡ true) ⊎ (isMuid peer ≡ false) → Stepped n (step (fullSize n) t (drop-peer peer)) (after n b (actOf n (drop-peer peer)))
   drop-stepped peer (inl e) =
-      let v = drop-value n t peer few (k .long) e in
-      rw e (record { long = v .long; rel = subst (λ (x : Value). Rel n x (after n b (Acts.drop peer))) (sym (v .value-is)) (drop-rel (k .rel) peer) })
-  drop-stepped peer (inr e) = rw (e, drop-refused n t peer few (k .long) e) (record { long = k .long; rel = k .rel })
+      let v = drop-value (fullSize n) t peer (roomy-long n t few (k .long)) e in
+      rw e (record { long = long-roomy n _ (v .long); rel = subst (λ (x : Value). Rel n x (after n b (Acts.drop peer))) (sym (v .value-is)) (drop-rel (k .rel) peer) })
+  drop-stepped peer (inr e) = rw (e, drop-refused (fullSize n) t peer (roomy-long n t few (k .long)) e) (record { long = k .long; rel = k .rel })
 
   module _ (now-ms : ℕ) (out-peers out-ids : List ℕ) where
     poll-stepped : ((hasPlaces n out-peers && hasPlaces n out-ids) ≡ true) ⊎ ((hasPlaces n out-peers && hasPlaces n out-ids) ≡ false)
-        → Stepped n (step n t (poll now-ms out-peers out-ids)) (after n b (actOf n (poll now-ms out-peers out-ids)))
+        → Stepped n (step (fullSize n) t (poll now-ms out-peers out-ids)) (after n b (actOf n (poll now-ms out-peers out-ids)))
     poll-stepped (inl e) =
-        let v = poll-value n t now-ms out-peers out-ids few (k .long) e in
-        rw e (record { long = v .long; rel = subst (λ (x : Value). Rel n x (after n b (Acts.poll now-ms))) (sym (v .value-is)) (poll-rel (k .rel) now-ms) })
-    poll-stepped (inr e) = rw (e, poll-refused n t now-ms out-peers out-ids few (k .long) e) (record { long = k .long; rel = k .rel })
+        let v = poll-value (fullSize n) t now-ms out-peers out-ids (roomy-long n t few (k .long)) e in
+        rw e (record { long = long-roomy n _ (v .long); rel = subst (λ (x : Value). Rel n x (after n b (Acts.poll now-ms))) (sym (v .value-is)) (poll-rel (k .rel) now-ms) })
+    poll-stepped (inr e) = rw (e, poll-refused (fullSize n) t now-ms out-peers out-ids (roomy-long n t few (k .long)) e) (record { long = k .long; rel = k .rel })
 
-  pub step-kept : (c : Call) → Kept n (step n t c) (after n b (actOf n c))
+  pub step-kept : (c : Call) → Kept n (step (fullSize n) t c) (after n b (actOf n c))
   step-kept (feed peer chunk now-ms out-header out-body) = feed-kept peer chunk now-ms out-header out-body
   step-kept (feed-message message now-ms out-header out-body) = message-kept message now-ms out-header out-body
   step-kept (cancel peer request-id) = with-sound _ _ (sound-cancel (fullSize n) (t .numbers) (t .index) (k .sound) peer request-id) (cancel-stepped peer request-id (both (isMuid peer)))
@@ -136,21 +136,21 @@ module _ (n : ℕ) (t : Table) (b : Model) (few : n ≤ 16) (k : Kept n t b) whe
   cancel-told : (peer request-id : ℕ) → (isMuid peer ≡ true) ⊎ (isMuid peer ≡ false)
       → cancelCall (fullSize n) (t .numbers) peer request-id .answer ≡ cond (isMuid peer) (granted (not (isNone (find peer request-id b)))) (refused 28 0)
   cancel-told peer request-id (inl e) =
-      rw e (cancel-value n t peer request-id few (k .long) e .answer-is ∙ ap (λ (x : Bool). granted x) (cancels-are (k .rel) peer request-id))
-  cancel-told peer request-id (inr e) = rw (e, cancel-refused n t peer request-id few (k .long) e)
+      rw e (cancel-value (fullSize n) t peer request-id (roomy-long n t few (k .long)) e .answer-is ∙ ap (λ (x : Bool). granted x) (cancels-are (k .rel) peer request-id))
+  cancel-told peer request-id (inr e) = rw (e, cancel-refused (fullSize n) t peer request-id (roomy-long n t few (k .long)) e)
 
   drop-told : (peer : ℕ) → (isMuid peer ≡ true) ⊎ (isMuid peer ≡ false)
       → dropCall (fullSize n) (t .numbers) peer .answer ≡ cond (isMuid peer) (granted (openOf peer b)) (refused 28 0)
-  drop-told peer (inl e) = rw e (drop-value n t peer few (k .long) e .answer-is ∙ ap (λ (x : ℕ). granted x) (drops-are (k .rel) peer))
-  drop-told peer (inr e) = rw (e, drop-refused n t peer few (k .long) e)
+  drop-told peer (inl e) = rw e (drop-value (fullSize n) t peer (roomy-long n t few (k .long)) e .answer-is ∙ ap (λ (x : ℕ). granted x) (drops-are (k .rel) peer))
+  drop-told peer (inr e) = rw (e, drop-refused (fullSize n) t peer (roomy-long n t few (k .long)) e)
 
-  pub right : (c : Call) (a : Answer) → Answers n t c a → Right n b c a
+  pub right : (c : Call) (a : Answer) → Answers (fullSize n) t c a → Right n b c a
   right (feed peer chunk now-ms out-header out-body) a e =
-      e ∙ ap fedAnswer (feed-ahead n t few (k .long) out-header out-body now-ms peer chunk)
-      ∙ reached-right out-header out-body (fedArrival peer chunk now-ms out-header out-body) (λ x q. fed-small now-ms out-header out-body x peer chunk q)
+      e ∙ ap fedAnswer (feed-ahead (fullSize n) t (roomy-long n t few (k .long)) out-header out-body now-ms peer chunk)
+      ∙ reached-right out-header out-body (fedArrival peer chunk now-ms out-header out-body) (λ x q. fed-small (fullSize n) now-ms out-header out-body x peer chunk q)
   right (feed-message message now-ms out-header out-body) a e =
-      e ∙ ap fedAnswer (message-ahead n t few (k .long) out-header out-body now-ms message)
-      ∙ reached-right out-header out-body (messageArrival message now-ms out-header out-body) (λ x q. message-small now-ms out-header out-body x message q)
+      e ∙ ap fedAnswer (message-ahead (fullSize n) t (roomy-long n t few (k .long)) out-header out-body now-ms message)
+      ∙ reached-right out-header out-body (messageArrival message now-ms out-header out-body) (λ x q. message-small (fullSize n) now-ms out-header out-body x message q)
   right (cancel peer request-id) a e = e ∙ ap (λ (r : Reply Bool). closed r) (cancel-told peer request-id (both (isMuid peer)))
   right (drop-peer peer) a e = e ∙ ap (λ (r : Reply ℕ). counted r) (drop-told peer (both (isMuid peer)))
   right (poll now-ms out-peers out-ids) a e = poll-right n t b few (k .long) (k .rel .same) now-ms out-peers out-ids a e

@@ -22,9 +22,9 @@ use Rattle.pe_run.proofs.PermLaws.{perm-map, perm-keep, perm-length}
 use Rattle.pe_run.proofs.RowLaws.{open-rows, keyT, due-rows}
 use Rattle.pe_run.proofs.SumLaws.{bytes-held, count-open, perm-bytes}
 use Rattle.pe_run.proofs.Sorted.{sorted-perm}
-use Rattle.pe_run.proofs.Ahead.{numbers-asked, poll-ahead, list-ahead}
+use Rattle.pe_run.proofs.Ahead.{roomy-long, numbers-asked, poll-ahead, list-ahead}
 
-module _ (n : ℕ) (t : Table) (b : Model) (few : n ≤ 16) (long : LongEnough n t) (order : Perm (opens (valueOf n t)) b) where
+module _ (n : ℕ) (t : Table) (b : Model) (few : n ≤ 16) (long : LongEnough n t) (order : Perm (opens (valueOf (fullSize n) t)) b) where
   -- ---- poll
   module _ (now-ms : ℕ) (out-peers out-ids : List ℕ) where
     abbrev due : List Timeout
@@ -38,8 +38,8 @@ module _ (n : ℕ) (t : Table) (b : Model) (few : n ≤ 16) (long : LongEnough n
     abbrev pollAnswer : Polled → Answer
     pollAnswer r = timed-out (r .answer) (r .out-peers) (r .out-ids)
 
-    pub poll-right : (a : Answer) → Answers n t (poll now-ms out-peers out-ids) a → Right n b (poll now-ms out-peers out-ids) a
-    poll-right a e = go (hasPlaces n out-peers && hasPlaces n out-ids) (e ∙ ap pollAnswer (poll-ahead n t few long now-ms out-peers out-ids))
+    pub poll-right : (a : Answer) → Answers (fullSize n) t (poll now-ms out-peers out-ids) a → Right n b (poll now-ms out-peers out-ids) a
+    poll-right a e = go (hasPlaces n out-peers && hasPlaces n out-ids) (e ∙ ap pollAnswer (poll-ahead (fullSize n) t (roomy-long n t few long) now-ms out-peers out-ids))
       where
         go : (places : Bool)
             → a ≡ pollAnswer (cond places
@@ -61,10 +61,10 @@ module _ (n : ℕ) (t : Table) (b : Model) (few : n ≤ 16) (long : LongEnough n
     abbrev listAnswer : Listed → Answer
     listAnswer l = listed (l .answer) (l .out-peers) (l .out-ids) (l .out-held)
 
-    pub list-right : (a : Answer) → Answers n t (open-list out-peers out-ids out-held) a → Right n b (open-list out-peers out-ids out-held) a
+    pub list-right : (a : Answer) → Answers (fullSize n) t (open-list out-peers out-ids out-held) a → Right n b (open-list out-peers out-ids out-held) a
     list-right a l =
         go (hasPlaces n out-peers && hasPlaces n out-ids && hasPlaces n out-held)
-        (l .told ∙ ap listAnswer (l .contract .told ∙ list-ahead n t few long (l .contract .rows) out-peers out-ids out-held))
+        (l .told ∙ ap listAnswer (l .contract .told ∙ list-ahead (fullSize n) t (roomy-long n t few long) (l .contract .rows) out-peers out-ids out-held))
       where
         rows : List Shown
         rows = l .contract .rows
@@ -84,12 +84,12 @@ module _ (n : ℕ) (t : Table) (b : Model) (few : n ≤ 16) (long : LongEnough n
         go false q = q
 
   -- ---- memory_stats
-  pub stats-right : SlotsSound (fullSize n) (t .numbers) (t .index) → (a : Answer) → Answers n t memory-stats a → Right n b memory-stats a
+  pub stats-right : SlotsSound (fullSize n) (t .numbers) (t .index) → (a : Answer) → Answers (fullSize n) t memory-stats a → Right n b memory-stats a
   unfolding statsCall reservedOf
   stats-right sound a e =
-      e ∙ rw (numbers-asked n t few long, bytes-held n t long sound ∙ perm-bytes order, count-open n t ∙ perm-length order)
+      e ∙ rw (numbers-asked (fullSize n) t (roomy-long n t few long), bytes-held n t long sound ∙ perm-bytes order, count-open n t ∙ perm-length order)
 
 -- ---- reserved_bytes
-pub reserved-right : (n : ℕ) (t : Table) (b : Model) → n ≤ 16 → (a : Answer) → Answers n t reserved-bytes a → Right n b reserved-bytes a
+pub reserved-right : (n : ℕ) (t : Table) (b : Model) → n ≤ 16 → (a : Answer) → Answers (fullSize n) t reserved-bytes a → Right n b reserved-bytes a
 unfolding reservedCall reservedOf inRange
 reserved-right n t b few a e = e ∙ rw (le-leb n 16 few)

@@ -48,7 +48,7 @@ module _ {A : Type 0} (test : ℕ → ℕ → Bool) (row : ℕ → ℕ → A) wh
       go false x y e e′ = e′
 
 -- what is shown of a model entry by entry: by each slot, and so by all of them
-module _ {A : Type 0} (g : Model → List A) (none-shown : g [] ≡ []) (both-shown : (xs ys : Model) → g (xs ++ ys) ≡ g xs ++ g ys) (t : Table) (test : ℕ → ℕ → Bool) (row : ℕ → ℕ → A) where
+module _ {A : Type 0} (g : Model → List A) (none-shown : g [] ≡ []) (both-shown : (xs ys : Model) → g (xs ++ ys) ≡ g xs ++ g ys) (n : ℕ) (t : Table) (test : ℕ → ℕ → Bool) (row : ℕ → ℕ → A) where
   abbrev Slots : ℕ → ℕ → Type 0
   Slots p k = (i s : ℕ) → p ≤ i → i < p + k → s < 4 → rowOf test row i s ≡ g (cond (isActive (t .numbers) i s) (entryAt t i s ∷ []) [])
 
@@ -58,27 +58,27 @@ module _ {A : Type 0} (g : Model → List A) (none-shown : g [] ≡ []) (both-sh
       (both-shown c0 (c1 ++ (c2 ++ (c3 ++ rest)))
       ∙ rw (both-shown c1 (c2 ++ (c3 ++ rest)), both-shown c2 (c3 ++ rest), both-shown c3 rest))
 
-  rows-from : (p k : ℕ) → Slots p k → rowsFrom test row p 0 (4 * k) ≡ g (recsOpen (recsFrom t p k))
+  rows-from : (p k : ℕ) → Slots p k → rowsFrom test row p 0 (4 * k) ≡ g (recsOpen (recsFrom (fullSize n) t p k))
   unfolding recsFrom rowsFrom recAt
   rows-from p zero h = sym none-shown
   rows-from p (suc k) h =
-      let c : ℕ → Model = λ s. cellOpen (peerIn t p) (cellAt t p s) in
-      let one : (s : ℕ) → s < 4 → rowOf test row p s ≡ g (c s) = λ s l. h p s (omega arith) (omega arith) l ∙ ap g (sym (cell-open t p s)) in
+      let c : ℕ → Model = λ s. cellOpen (peerIn t p) (cellAt (fullSize n) t p s) in
+      let one : (s : ℕ) → s < 4 → rowOf test row p s ≡ g (c s) = λ s l. h p s (omega arith) (omega arith) l ∙ ap g (sym (cell-open n t p s)) in
       let rest = rows-from (suc p) k (λ i s a b l. h i s (omega arith) (omega arith) l) in
       rows-four test row p k
       ∙ rw (one 0 (omega arith), one 1 (omega arith), one 2 (omega arith), one 3 (omega arith), rest) refl
-      ∙ sym (four-shown (c 0) (c 1) (c 2) (c 3) (recsOpen (recsFrom t (suc p) k)))
+      ∙ sym (four-shown (c 0) (c 1) (c 2) (c 3) (recsOpen (recsFrom (fullSize n) t (suc p) k)))
 
-  pub rows-by : (n : ℕ) → ((p s : ℕ) → p < n → s < 4 → rowOf test row p s ≡ g (cond (isActive (t .numbers) p s) (entryAt t p s ∷ []) []))
-      → rowsFrom test row 0 0 (4 * n) ≡ g (opens (valueOf n t))
+  pub rows-by : ((p s : ℕ) → p < n → s < 4 → rowOf test row p s ≡ g (cond (isActive (t .numbers) p s) (entryAt t p s ∷ []) []))
+      → rowsFrom test row 0 0 (4 * n) ≡ g (opens (valueOf (fullSize n) t))
   unfolding valueOf
-  rows-by n h = rows-from 0 n (λ p s a b l. h p s (omega arith) l)
+  rows-by h = rows-from 0 n (λ p s a b l. h p s (omega arith) l)
 
 -- ---- the open slots
-pub open-rows : (n : ℕ) (t : Table) → LongEnough n t → SlotsSound (fullSize n) (t .numbers) (t .index) → openSlots (fullSize n) (t .numbers) ≡ map shownOf (opens (valueOf n t))
+pub open-rows : (n : ℕ) (t : Table) → LongEnough n t → SlotsSound (fullSize n) (t .numbers) (t .index) → openSlots (fullSize n) (t .numbers) ≡ map shownOf (opens (valueOf (fullSize n) t))
 unfolding openSlots
 open-rows n t long sound =
-    rows-by (λ (b : Model). map shownOf b) refl (map-append shownOf) t (isActive (t .numbers)) (shownAt (t .numbers)) n
+    rows-by (λ (b : Model). map shownOf b) refl (map-append shownOf) n t (isActive (t .numbers)) (shownAt (t .numbers))
     (λ p s h k. one p s (isActive (t .numbers) p s) (entry-held n t long p s h k (sound .each p s h k)))
   where
     one : (p s : ℕ) (b : Bool) → length (entryAt t p s .state .slot .pieces) ≡ getD (t .numbers) (slotAt p s + 7) 0
@@ -93,11 +93,11 @@ keyT t = record { peer = t .peer; request-id = t .request-id }
 abbrev lateKeys : ℕ → Model → List Key
 lateKeys now-ms b = map keyOf (keep (isLate now-ms) b)
 
-pub due-rows : (n : ℕ) (t : Table) (now-ms : ℕ) → map keyT (dueFrom (t .numbers) now-ms 0 0 (4 * n)) ≡ map keyOf (keep (isLate now-ms) (opens (valueOf n t)))
+pub due-rows : (n : ℕ) (t : Table) (now-ms : ℕ) → map keyT (dueFrom (t .numbers) now-ms 0 0 (4 * n)) ≡ map keyOf (keep (isLate now-ms) (opens (valueOf (fullSize n) t)))
 unfolding isDue
 due-rows n t now-ms =
     rows-mapped (isDue (t .numbers) now-ms) (timeoutOf (t .numbers)) keyT 0 0 (4 * n)
-    ∙ rows-by (lateKeys now-ms) refl split t (isDue (t .numbers) now-ms) (λ (p s : ℕ). keyT (timeoutOf (t .numbers) p s)) n
+    ∙ rows-by (lateKeys now-ms) refl split n t (isDue (t .numbers) now-ms) (λ (p s : ℕ). keyT (timeoutOf (t .numbers) p s))
     (λ p s h k. one (entryAt t p s) (isActive (t .numbers) p s))
   where
     split : (xs ys : Model) → lateKeys now-ms (xs ++ ys) ≡ lateKeys now-ms xs ++ lateKeys now-ms ys

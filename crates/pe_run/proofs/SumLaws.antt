@@ -19,33 +19,33 @@ use Rattle.pe_run.proofs.PermLaws.{perm-sum}
 use Rattle.pe_run.proofs.CellLaws.{peerIn, entryAt, cell-open, entry-bytes}
 
 -- ---- sums by place
-module _ (g : Model → ℕ) (none-held : g [] ≡ 0) (both-held : (xs ys : Model) → g (xs ++ ys) ≡ g xs + g ys) (t : Table) (f : ℕ → ℕ → ℕ) where
+module _ (g : Model → ℕ) (none-held : g [] ≡ 0) (both-held : (xs ys : Model) → g (xs ++ ys) ≡ g xs + g ys) (n : ℕ) (t : Table) (f : ℕ → ℕ → ℕ) where
   four-held : (c0 c1 c2 c3 rest : Model) → g ((c0 ++ (c1 ++ (c2 ++ (c3 ++ [])))) ++ rest) ≡ (g c0 + g c1 + g c2 + g c3) + g rest
   four-held c0 c1 c2 c3 rest =
       rw (append-nil c3, both-held (c0 ++ (c1 ++ (c2 ++ c3))) rest, both-held c0 (c1 ++ (c2 ++ c3)), both-held c1 (c2 ++ c3), both-held c2 c3) (omega arith)
 
   sums-from : (p k : ℕ) → ((i s : ℕ) → p ≤ i → i < p + k → s < 4 → f i s ≡ g (cond (isActive (t .numbers) i s) (entryAt t i s ∷ []) []))
-      → overSlots f (p + k) ≡ overSlots f p + g (recsOpen (recsFrom t p k))
+      → overSlots f (p + k) ≡ overSlots f p + g (recsOpen (recsFrom (fullSize n) t p k))
   unfolding recsFrom recAt
   sums-from p zero h =
       let z : p + 0 ≡ p = omega arith in
       rw (z, none-held) (omega arith)
   sums-from p (suc k) h =
-      let c : ℕ → Model = λ s. cellOpen (peerIn t p) (cellAt t p s) in
-      let one : (s : ℕ) → s < 4 → f p s ≡ g (c s) = λ s l. h p s (omega arith) (omega arith) l ∙ ap g (sym (cell-open t p s)) in
+      let c : ℕ → Model = λ s. cellOpen (peerIn t p) (cellAt (fullSize n) t p s) in
+      let one : (s : ℕ) → s < 4 → f p s ≡ g (c s) = λ s l. h p s (omega arith) (omega arith) l ∙ ap g (sym (cell-open n t p s)) in
       let rest = sums-from (suc p) k (λ i s a b l. h i s (omega arith) (omega arith) l) in
       let z : p + suc k ≡ suc p + k = omega arith in
       ap (overSlots f) z ∙ rest
-      ∙ more (g (recsOpen (recsFrom t (suc p) k))) (g (c 0)) (g (c 1)) (g (c 2)) (g (c 3)) (one 0 (omega arith)) (one 1 (omega arith)) (one 2 (omega arith)) (one 3 (omega arith))
-      ∙ ap (λ (r : ℕ). overSlots f p + r) (sym (four-held (c 0) (c 1) (c 2) (c 3) (recsOpen (recsFrom t (suc p) k))))
+      ∙ more (g (recsOpen (recsFrom (fullSize n) t (suc p) k))) (g (c 0)) (g (c 1)) (g (c 2)) (g (c 3)) (one 0 (omega arith)) (one 1 (omega arith)) (one 2 (omega arith)) (one 3 (omega arith))
+      ∙ ap (λ (r : ℕ). overSlots f p + r) (sym (four-held (c 0) (c 1) (c 2) (c 3) (recsOpen (recsFrom (fullSize n) t (suc p) k))))
     where
       more : (r a b c d : ℕ) → f p 0 ≡ a → f p 1 ≡ b → f p 2 ≡ c → f p 3 ≡ d → overSlots f (suc p) + r ≡ overSlots f p + ((a + b + c + d) + r)
       more r a b c d ea eb ec ed = unfold overSlots in (omega arith)
 
-  pub sums-by : (n : ℕ) → ((p s : ℕ) → p < n → s < 4 → f p s ≡ g (cond (isActive (t .numbers) p s) (entryAt t p s ∷ []) []))
-      → overSlots f n ≡ g (opens (valueOf n t))
+  pub sums-by : ((p s : ℕ) → p < n → s < 4 → f p s ≡ g (cond (isActive (t .numbers) p s) (entryAt t p s ∷ []) []))
+      → overSlots f n ≡ g (opens (valueOf (fullSize n) t))
   unfolding valueOf overSlots
-  sums-by n h =
+  sums-by h =
       let z : 0 + n ≡ n = omega arith in
       ap (overSlots f) (sym z) ∙ sums-from 0 n (λ p s a b l. h p s (omega arith) l) ∙ omega arith
 
@@ -57,10 +57,10 @@ bytes-both (x ∷ xs) ys = rw (bytes-both xs ys) (group (entryBytes x) (bytesOpe
     group : (a b c : ℕ) → a + (b + c) ≡ a + b + c
     group a b c = omega arith
 
-pub bytes-held : (n : ℕ) (t : Table) → LongEnough n t → SlotsSound (fullSize n) (t .numbers) (t .index) → overSlots (slotBytes (t .numbers)) n ≡ bytesOpen (opens (valueOf n t))
+pub bytes-held : (n : ℕ) (t : Table) → LongEnough n t → SlotsSound (fullSize n) (t .numbers) (t .index) → overSlots (slotBytes (t .numbers)) n ≡ bytesOpen (opens (valueOf (fullSize n) t))
 unfolding slotBytes
 bytes-held n t long sound =
-    sums-by bytesOpen refl bytes-both t (slotBytes (t .numbers)) n
+    sums-by bytesOpen refl bytes-both n t (slotBytes (t .numbers))
     (λ p s h k. one (entryAt t p s) (isActive (t .numbers) p s) _ (entry-bytes n t long p s h k (sound .each p s h k)))
   where
     one : (e : Entry) (b : Bool) (bytes : ℕ) → entryBytes e ≡ bytes → cond b bytes 0 ≡ bytesOpen (cond b (e ∷ []) [])
@@ -71,9 +71,9 @@ bytes-held n t long sound =
     one e false bytes q = refl
 
 -- ---- how many are open
-pub count-open : (n : ℕ) (t : Table) → overSlots (λ (p s : ℕ). openCount (t .numbers) p s) n ≡ length (opens (valueOf n t))
+pub count-open : (n : ℕ) (t : Table) → overSlots (λ (p s : ℕ). openCount (t .numbers) p s) n ≡ length (opens (valueOf (fullSize n) t))
 count-open n t =
-    sums-by (λ (b : Model). length b) refl (λ xs ys. length-append xs ys) t (λ (p s : ℕ). openCount (t .numbers) p s) n
+    sums-by (λ (b : Model). length b) refl (λ xs ys. length-append xs ys) n t (λ (p s : ℕ). openCount (t .numbers) p s)
     (λ p s h k. one (entryAt t p s) (isActive (t .numbers) p s))
   where
     one : (e : Entry) (b : Bool) → cond b 1 0 ≡ length (cond b (e ∷ []) [])

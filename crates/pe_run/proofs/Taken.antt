@@ -16,7 +16,7 @@ use Rattle.pe_frame.specs.Chunk.{Chunk}
 use Rattle.pe_slot.specs.Slot.{Slot, held, allHeld, bodyLen, isWhole, Event, waiting, whole, eventOf, headerFits, sameHeader, headerAgrees, isNone, newHeader, countAgrees, newCount, afterChunk, passed, judge}
 use Rattle.pe_slot.proofs.OrderHeldLaws.{all-yes, all-no}
 use Rattle.pe_run.specs.Lists.{memb}
-use Rattle.pe_run.specs.Model.{Open, Judged, judged}
+use Rattle.pe_run.specs.Model.{judgedAt, Open, Judged, judged}
 use Rattle.pe_run.proofs.ListLaws.{eqb-sym, all-middle, memb-append, distinct-middle}
 use Rattle.pe_run.proofs.Pieces.{numOf, held-memb, body-len-append}
 use Rattle.pe_run.proofs.Chunks.{pieceIn, piecesIn, numbers, Of, Good}
@@ -42,7 +42,7 @@ abbrev pub settled : ℕ → Slot → Judged
 settled time s = judgedTo (cond (isWhole (s .header) (s .count) (s .pieces)) none (some (openAt time s))) (eventOf (s .header) (s .count) (s .pieces))
 
 judged-passed : (time : ℕ) (s : Slot) (c : Chunk) → Passes s c → judged (openAt time s) c ≡ settled time (afterChunk s c (newHeader s c) (newCount s c) true)
-unfolding judged judge passed
+unfolding judgedAt judge passed
 judged-passed time s c k = rw (k .fits, k .agrees, k .counts, k .named, k .fresh, k .few, k .roomy) refl
 
 -- ---- a slot that holds chunks of a list: its header is there if number 1 is

@@ -17,6 +17,7 @@ use Rattle.pe_reassembler.specs.Open.{Perm, then}
 use Rattle.pe_reassembler.specs.Feed.{nextTick}
 use Rattle.pe_run.specs.Lists.{tally}
 use Rattle.pe_run.specs.Model.{Open, Model, find, openOf, peersOpen, findsRecord, hasFour, touchedAt, Judged, judged, entryOf, without, Arrived, arrived, arrives, Act, arrive, cancel, drop, poll, nothing, after}
+use Rattle.pe_run.specs.Run.{fullSize}
 use Rattle.pe_run.specs.Demand.{Room}
 use Rattle.pe_run.proofs.ListLaws.{NoneOf, all-first, all-second, tally-all}
 use Rattle.pe_run.proofs.PermLaws.{perm-sym}
@@ -52,21 +53,21 @@ unfolding arrives hasFour
 arrive-fifth n peer b c now-ms h e = rw (finds-open n peer b (omega arith), e, le-leb 4 (openOf peer b) h) refl
 
 -- ---- what the value makes of a chunk
-module _ (v : Value) (peer : ℕ) (c : Chunk) (now-ms : ℕ) where
-  takes-full : choose peer (v .recs) ≡ none → takes v peer c now-ms ≡ record { value = v; answer = refused 7 0 }
+module _ (n : ℕ) (v : Value) (peer : ℕ) (c : Chunk) (now-ms : ℕ) where
+  takes-full : choose peer (v .recs) ≡ none → takes (fullSize n) v peer c now-ms ≡ record { value = v; answer = refused 7 0 }
   unfolding takes takeAt
-  takes-full e = ap (takeAt v peer c now-ms) e
+  takes-full e = ap (takeAt (fullSize n) v peer c now-ms) e
 
   module _ {test : Rec → Bool} (s : Split test (v .recs)) (chosen : choose peer (v .recs) ≡ some (length (s .before))) where
-    takes-in : takes v peer c now-ms ≡ takeRec v peer c now-ms (length (s .before)) (s .hit) (chooseCell (c .request-id) (s .hit .cells))
+    takes-in : takes (fullSize n) v peer c now-ms ≡ takeRec (fullSize n) v peer c now-ms (length (s .before)) (s .hit) (chooseCell (c .request-id) (s .hit .cells))
     unfolding takes takeAt
     takes-in =
-        ap (takeAt v peer c now-ms) chosen
-        ∙ ap (λ (r : Rec). takeRec v peer c now-ms (length (s .before)) r (chooseCell (c .request-id) (r .cells))) (split-getD s noRec)
+        ap (takeAt (fullSize n) v peer c now-ms) chosen
+        ∙ ap (λ (r : Rec). takeRec (fullSize n) v peer c now-ms (length (s .before)) r (chooseCell (c .request-id) (r .cells))) (split-getD s noRec)
 
-    takes-fifth : chooseCell (c .request-id) (s .hit .cells) ≡ none → takes v peer c now-ms ≡ record { value = v; answer = refused 6 0 }
+    takes-fifth : chooseCell (c .request-id) (s .hit .cells) ≡ none → takes (fullSize n) v peer c now-ms ≡ record { value = v; answer = refused 6 0 }
     unfolding takeRec
-    takes-fifth e = takes-in ∙ ap (takeRec v peer c now-ms (length (s .before)) (s .hit)) e
+    takes-fifth e = takes-in ∙ ap (takeRec (fullSize n) v peer c now-ms (length (s .before)) (s .hit)) e
 
     -- the cell that is chosen gets what is left
     module _ {taken : Cell → Bool} (u : Split taken (s .hit .cells)) where
@@ -76,10 +77,10 @@ module _ (v : Value) (peer : ℕ) (c : Chunk) (now-ms : ℕ) where
         answer = j .answer;
       }
 
-      takes-at : chooseCell (c .request-id) (s .hit .cells) ≡ some (length (u .before)) → takes v peer c now-ms ≡ taking (judged (touchedAt (u .hit .state) now-ms) c)
+      takes-at : chooseCell (c .request-id) (s .hit .cells) ≡ some (length (u .before)) → takes (fullSize n) v peer c now-ms ≡ taking (judged (touchedAt (u .hit .state) now-ms) c)
       unfolding takeRec takeCell
       takes-at e =
-          takes-in ∙ ap (takeRec v peer c now-ms (length (s .before)) (s .hit)) e
+          takes-in ∙ ap (takeRec (fullSize n) v peer c now-ms (length (s .before)) (s .hit)) e
           ∙ ap (λ (cell : Cell). stored (judged (touchedAt (cell .state) now-ms) c)) (split-getD u noCell)
           ∙ there (judged (touchedAt (u .hit .state) now-ms) c)
         where
@@ -124,10 +125,10 @@ no-ids id (cell ∷ cells) h = let a = and-told (isFree cell) (every isFree cell
 
 module _ {n : ℕ} {v : Value} {b : Model} (rel : Rel n v b) (peer : ℕ) (c : Chunk) (now-ms : ℕ) where
   abbrev Goal : Type 0
-  Goal = Agrees n (takes v peer c now-ms) (arrives n b peer c now-ms)
+  Goal = Agrees n (takes (fullSize n) v peer c now-ms) (arrives n b peer c now-ms)
 
   -- a refusal of both
-  refused-both : (number : ℕ) → takes v peer c now-ms ≡ record { value = v; answer = refused number 0 }
+  refused-both : (number : ℕ) → takes (fullSize n) v peer c now-ms ≡ record { value = v; answer = refused number 0 }
       → arrives n b peer c now-ms ≡ record { model = b; answer = refused number 0 } → Goal
   refused-both number e f = rw (e, f) (record { rel = rel; answer-is = refl })
 
@@ -137,7 +138,7 @@ module _ {n : ℕ} {v : Value} {b : Model} (rel : Rel n v b) (peer : ℕ) (c : C
     judged-both : {taken : Cell → Bool} (u : Split taken (s .hit .cells)) → chooseCell (c .request-id) (s .hit .cells) ≡ some (length (u .before))
         → Perm (rest s u peer) (without peer (c .request-id) b)
         → arrives n b peer c now-ms ≡ arrived peer (c .request-id) b (judged (touchedAt (u .hit .state) now-ms) c) → Goal
-    judged-both u e p arr = rw (takes-at v peer c now-ms s chosen u e, arr) (record {
+    judged-both u e p arr = rw (takes-at n v peer c now-ms s chosen u e, arr) (record {
       rel = put-rel rel s u (nextTick (v .clock)) peer (c .request-id) left before behind p
           (cellWith (nextTick (v .clock)) (c .request-id) left) (cell-open peer (nextTick (v .clock)) (c .request-id) left);
       answer-is = refl;
@@ -201,7 +202,7 @@ module _ {n : ℕ} {v : Value} {b : Model} (rel : Rel n v b) (peer : ℕ) (c : C
       frees : NoneOf (hasId (c .request-id)) (s .hit .cells) → NoneOf isFree (s .hit .cells) ⊎ Split isFree (s .hit .cells) → Goal
       frees a (inl k) =
           refused-both 6
-          (takes-fifth v peer c now-ms s chosen (rw (place-absent (hasId (c .request-id)) (s .hit .cells) a) (place-absent isFree (s .hit .cells) k)))
+          (takes-fifth n v peer c now-ms s chosen (rw (place-absent (hasId (c .request-id)) (s .hit .cells) a) (place-absent isFree (s .hit .cells) k)))
           (arrive-fifth n peer b c now-ms (omega (arith, used, tally-all isFree (s .hit .cells) k, four)) (absent a))
       frees a (inr u) =
           open-both s chosen (s .fails) behind u a
@@ -230,7 +231,7 @@ module _ {n : ℕ} {v : Value} {b : Model} (rel : Rel n v b) (peer : ℕ) (c : C
       idles : Apart peer (v .recs) → NoneOf isUnbound (v .recs) → NoneOf isIdle (v .recs) ⊎ Split isIdle (v .recs) → Goal
       idles apart bound (inl a) =
           refused-both 7
-          (takes-full v peer c now-ms (rw (place-absent (isOwn peer) (v .recs) apart, place-absent isUnbound (v .recs) bound) (place-absent isIdle (v .recs) a)))
+          (takes-full n v peer c now-ms (rw (place-absent (isOwn peer) (v .recs) apart, place-absent isUnbound (v .recs) bound) (place-absent isIdle (v .recs) a)))
           (arrive-full n peer b c now-ms (tally-is rel peer ∙ away-tally peer (opens v) (apart-away peer (v .recs) (rel .tidy) apart))
           (omega (arith, peers-are rel, tally-all isIdle (v .recs) a, rel .size)))
       idles apart bound (inr s) =

@@ -16,8 +16,10 @@ use Rattle.pe_slot.specs.Slot.{Slot, Verdict, judge, slotAfter}
 use Rattle.pe_slot.specs.Memory.{slotOf, wordsOf, piecesOf, contents, endsAt, isEnd, isSound}
 use Rattle.pe_slot.specs.Feed.{After, touched, grown, closed, toldAnswer, outHeader, outBody, placed, isShaped, feedSlot}
 use Rattle.pe_slot.proofs.FeedTheorems.{memory-follows, opened}
+use Rattle.pe_reassembler.proofs.TableLaws.{Ranges}
 use Rattle.pe_reassembler.proofs.SoundLaws.{SlotSound}
-use Rattle.pe_run.specs.Model.{Open, touchedAt, Judged, judged}
+use Rattle.pe_reassembler.specs.declared.shape.Shape.{Shape}
+use Rattle.pe_run.specs.Model.{Open, touchedAt, Judged, judgedAt}
 use Rattle.pe_run.proofs.Value.{cellOf, cellWith, shut}
 
 -- a closed slot is a shut cell
@@ -48,16 +50,16 @@ touched-sound H B R t index request-id now-ms tick e =
     rw (p, opened (t .active))
 
 -- the lengths of a slot's parts at full size
-pub record Sized (words index header arena : List ℕ) : Type 0 where
+pub record Sized (shape : Shape) (words index header arena : List ℕ) : Type 0 where
   pub words-size : length words ≡ 9
-  pub index-size : length index ≡ 2048
-  pub header-size : length header ≡ 4096
-  pub arena-size : length arena ≡ 65536
+  pub index-size : length index ≡ shape .«fragment_records»
+  pub header-size : length header ≡ shape .«header_bytes»
+  pub arena-size : length arena ≡ shape .«tx_bytes»
 
-module _ (words index header arena : List ℕ) (neat : SlotSound 4096 65536 2048 words index) where
+module _ (shape : Shape) (words index header arena : List ℕ) (neat : SlotSound (shape .«header_bytes») (shape .«tx_bytes») (shape .«fragment_records») words index) where
   no-records : eqb (getD words 0 0) 0 ≡ true → getD words 7 0 ≡ 0
   no-records e =
-      let p : unheld (slotOf words) ≡ true = halves 4096 65536 2048 (slotOf words) index (neat .sound) .1 in
+      let p : unheld (slotOf words) ≡ true = halves (shape .«header_bytes») (shape .«tx_bytes») (shape .«fragment_records») (slotOf words) index (neat .sound) .1 in
       let q : (eqb (getD words 6 0) 0 && eqb (getD words 7 0) 0) ≡ true = rw e at p in
       eqb-true _ _ (and-told (eqb (getD words 6 0) 0) (eqb (getD words 7 0) 0) q .1)
 
@@ -93,14 +95,14 @@ cell-left true t c v request-id now-ms tick index header arena s e = refl
 cell-left false t c v request-id now-ms tick index header arena s e = rw (opened (t .active), e refl)
 
 -- what a feed leaves
-module _ (words index header arena : List ℕ) (c : Chunk) (now-ms tick : ℕ) (out-header out-body : List ℕ)
-    (size : Sized words index header arena) (neat : SlotSound 4096 65536 2048 words index)
-    (header-room : 4096 ≤ length out-header) (body-room : 65536 ≤ length out-body) (short : length (c .property) ≤ 16383) (named : c .chunk-num < 65536) where
+module _ (shape : Shape) (words index header arena : List ℕ) (c : Chunk) (now-ms tick : ℕ) (out-header out-body : List ℕ)
+    (range : Ranges shape) (size : Sized shape words index header arena) (neat : SlotSound (shape .«header_bytes») (shape .«tx_bytes») (shape .«fragment_records») words index)
+    (header-room : shape .«header_bytes» ≤ length out-header) (body-room : shape .«tx_bytes» ≤ length out-body) (short : length (c .property) ≤ 16383) (named : c .chunk-num < 65536) where
   abbrev held : Slot
   held = contents (slotOf words) index header arena
 
   abbrev verdict : Verdict
-  verdict = judge 4096 65536 2048 held c
+  verdict = judge (shape .«header_bytes») (shape .«tx_bytes») (shape .«fragment_records») held c
 
   abbrev fed : After
   fed = feedSlot words index header arena c now-ms tick out-header out-body
@@ -111,27 +113,27 @@ module _ (words index header arena : List ℕ) (c : Chunk) (now-ms tick : ℕ) (
   fed-is : fed ≡ left
   unfolding feedSlot isShaped
   fed-is =
-      rw (size .words-size, size .index-size, size .header-size, size .arena-size, neat .sound, le-leb _ _ header-room, le-leb _ _ body-room, le-leb _ _ short)
+      rw (size .words-size, size .index-size, size .header-size, size .arena-size, neat .sound, le-leb _ _ (range .records), le-leb _ _ (range .header), le-leb _ _ (range .body), le-leb _ _ header-room, le-leb _ _ body-room, le-leb _ _ short)
 
   follows : verdict .closes ≡ false → contents (slotOf (left .words)) (left .index) (left .header) (left .arena) ≡ slotAfter held c verdict
   unfolding contents
   follows q =
       let e : isSound (length header) (length arena) (length index) (touched (slotOf words) (c .request-id) now-ms tick) index ≡ true =
-      rw (size .index-size, size .header-size, size .arena-size) (touched-sound 4096 65536 2048 (slotOf words) index (c .request-id) now-ms tick (neat .sound)) in
+      rw (size .index-size, size .header-size, size .arena-size) (touched-sound (shape .«header_bytes») (shape .«tx_bytes») (shape .«fragment_records») (slotOf words) index (c .request-id) now-ms tick (neat .sound)) in
       let f = memory-follows (touched (slotOf words) (c .request-id) now-ms tick) index header arena c out-header out-body e short named in
       let g = rw (size .index-size, size .header-size, size .arena-size) at f in
       g q
 
-  left-cell : cellOf (left .words) (left .index) (left .header) (left .arena) ≡ cellWith tick (c .request-id) (judged (record { time = now-ms; slot = held }) c .left)
-  unfolding judged placed
+  left-cell : cellOf (left .words) (left .index) (left .header) (left .arena) ≡ cellWith tick (c .request-id) (judgedAt (shape .«header_bytes») (shape .«tx_bytes») (shape .«fragment_records») (record { time = now-ms; slot = held }) c .left)
+  unfolding judgedAt placed
   left-cell = cell-left (verdict .closes) (slotOf words) c verdict (c .request-id) now-ms tick (left .index) (left .header) (left .arena) (slotAfter held c verdict) follows
 
   -- the cell after it, the answer and the outputs
   abbrev told : Judged
-  told = judged (touchedAt (cellOf words index header arena .state) now-ms) c
+  told = judgedAt (shape .«header_bytes») (shape .«tx_bytes») (shape .«fragment_records») (touchedAt (cellOf words index header arena .state) now-ms) c
 
-  told-is : told ≡ judged (record { time = now-ms; slot = held }) c
-  told-is = ap (λ (o : Open). judged o c) (held-slot words index header arena neat now-ms)
+  told-is : told ≡ judgedAt (shape .«header_bytes») (shape .«tx_bytes») (shape .«fragment_records») (record { time = now-ms; slot = held }) c
+  told-is = ap (λ (o : Open). judgedAt (shape .«header_bytes») (shape .«tx_bytes») (shape .«fragment_records») o c) (held-slot shape words index header arena neat now-ms)
 
   pub fed-cell : cellOf (fed .words) (fed .index) (fed .header) (fed .arena) ≡ cellWith tick (c .request-id) (told .left)
   fed-cell =
@@ -140,7 +142,7 @@ module _ (words index header arena : List ℕ) (c : Chunk) (now-ms tick : ℕ) (
       ∙ ap (λ (j : Judged). cellWith tick (c .request-id) (j .left)) (sym told-is)
 
   pub fed-told : (fed .answer ≡ toldAnswer (told .answer)) × (fed .out-header ≡ outHeader (told .answer) out-header) × (fed .out-body ≡ outBody (told .answer) out-body)
-  unfolding judged placed
+  unfolding judgedAt placed
   fed-told = (
     ap (λ (x : After). x .answer) fed-is ∙ ap (λ (j : Judged). toldAnswer (j .answer)) (sym told-is),
     ap (λ (x : After). x .out-header) fed-is ∙ ap (λ (j : Judged). outHeader (j .answer) out-header) (sym told-is),

@@ -51,19 +51,28 @@ arriving peer bytes now-ms =
 
 -- "A frame *arrives* when its call gets yes to every question asked ahead of **Table**'s; otherwise the book stays." Those questions: 30, of
 -- which only the outputs' lengths can have a no in a run, 28, **Frame**'s, or **CI**'s and then **Frame**'s.
-abbrev pub hasOutputs : List ℕ → List ℕ → Bool
-hasOutputs out-header out-body = leb 4096 (length out-header) && leb 65536 (length out-body)
+abbrev pub hasOutputsIn : ℕ → ℕ → List ℕ → List ℕ → Bool
+hasOutputsIn H B out-header out-body = leb H (length out-header) && leb B (length out-body)
 
-unfoldable pub fedArrival : ℕ → List ℕ → ℕ → List ℕ → List ℕ → Reply Arrival
-fedArrival peer chunk now-ms out-header out-body =
-    hasOutputs out-header out-body else 30 then
+abbrev pub hasOutputs : List ℕ → List ℕ → Bool
+hasOutputs out-header out-body = hasOutputsIn 4096 65536 out-header out-body
+
+unfoldable pub fedArrivalIn : ℕ → ℕ → ℕ → List ℕ → ℕ → List ℕ → List ℕ → Reply Arrival
+fedArrivalIn H B peer chunk now-ms out-header out-body =
+    hasOutputsIn H B out-header out-body else 30 then
     isMuid peer else 28 then
     arriving peer chunk now-ms
 
-unfoldable pub messageArrival : List ℕ → ℕ → List ℕ → List ℕ → Reply Arrival
-messageArrival message now-ms out-header out-body =
-    hasOutputs out-header out-body else 30 then
+abbrev pub fedArrival : ℕ → List ℕ → ℕ → List ℕ → List ℕ → Reply Arrival
+fedArrival peer chunk now-ms out-header out-body = fedArrivalIn 4096 65536 peer chunk now-ms out-header out-body
+
+unfoldable pub messageArrivalIn : ℕ → ℕ → List ℕ → ℕ → List ℕ → List ℕ → Reply Arrival
+messageArrivalIn H B message now-ms out-header out-body =
+    hasOutputsIn H B out-header out-body else 30 then
     andThen (readMessage message) (λ m. arriving (m .header .source) (drop 13 message) now-ms)
+
+abbrev pub messageArrival : List ℕ → ℕ → List ℕ → List ℕ → Reply Arrival
+messageArrival message now-ms out-header out-body = messageArrivalIn 4096 65536 message now-ms out-header out-body
 
 -- What arrives with a call, if anything does.
 abbrev pub grantedOf : {A : Type 0} → Reply A → Option A

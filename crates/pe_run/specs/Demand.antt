@@ -121,13 +121,13 @@ pub record Delivery (n : ℕ) (b : Model) (peer request-id : ℕ) (header body :
 -- Of every run on a table that `new` has just made of memory t:
 pub record Demand3 (n : ℕ) (t : Table) : Type 0 where
   -- every answer is the model's;
-  pub answers : (calls : List Call) (told : List Answer) → Run n (made n t) calls told → AllRight n [] calls told
+  pub answers : (calls : List Call) (told : List Answer) → Run (fullSize n) (made (fullSize n) t) calls told → AllRight n [] calls told
   -- no peer ever has more than four slots open;
-  pub four : (calls : List Call) (peer : ℕ) → tally (λ (r : Shown). eqb peer (r .peer)) (openSlots (fullSize n) (tableFrom n (made n t) calls .numbers)) ≤ 4
+  pub four : (calls : List Call) (peer : ℕ) → tally (λ (r : Shown). eqb peer (r .peer)) (openSlots (fullSize n) (tableFrom (fullSize n) (made (fullSize n) t) calls .numbers)) ≤ 4
   -- and a list whose chunks arrive is handed out with the last of them.
   pub delivery : (before : List Call) (peer request-id : ℕ) (header body : List ℕ) (limit : ℕ) (first : Call) (rest : List Call) (told : List Answer)
       → Delivery n (modelAfter n before) peer request-id header body limit first rest
-      → Run n (tableFrom n (made n t) before) (first ∷ rest) told
+      → Run (fullSize n) (tableFrom (fullSize n) (made (fullSize n) t) before) (first ∷ rest) told
       → answersTo peer request-id (first ∷ rest) told ≡ delivered header body (ours peer request-id (first ∷ rest))
 
 abbrev pub Demand : Type 0

@@ -71,13 +71,16 @@ pub record Judged : Type 0 where
   pub left : Option Open
   pub answer : Reply Event
 
-unfoldable pub judged : Open → Chunk → Judged
-judged o c =
-    let v : Verdict = judge 4096 65536 2048 (o .slot) c in
+unfoldable pub judgedAt : ℕ → ℕ → ℕ → Open → Chunk → Judged
+judgedAt H B R o c =
+    let v : Verdict = judge H B R (o .slot) c in
     record {
       left = cond (v .closes) none (some (record { time = o .time; slot = slotAfter (o .slot) c v }));
       answer = v .answer;
     }
+
+abbrev pub judged : Open → Chunk → Judged
+judged o c = judgedAt 4096 65536 2048 o c
 
 abbrev pub entryOf : ℕ → ℕ → Option Open → Model
 entryOf peer request-id none = []
