@@ -18,23 +18,22 @@ use Rattle.pe_reassembler.specs.Feed.{Fed, fed, atTable, chunkRead, hasAll, fee
 use Rattle.pe_reassembler.specs.Poll.{Timeout, dueFrom, sorted, closeDue, polled, pollCall}
 use Rattle.pe_reassembler.specs.Open.{Shown, listed, openCall}
 use Rattle.pe_reassembler.specs.declared.shape.Shape.{Shape}
-use Rattle.pe_reassembler.proofs.Effects.{rooms-told}
-use Rattle.pe_run.specs.Demand.{LongEnough}
-use Rattle.pe_run.specs.Calls.{Arrival, arriving, hasOutputsIn, fedArrivalIn, messageArrivalIn, hasPlaces}
-use Rattle.pe_run.specs.Run.{Table, fullSize, lent, Roomy}
+use Rattle.pe_run.specs.Demand.{fullSize, LongEnough}
+use Rattle.pe_run.specs.Calls.{Arrival, arrival, arriving, hasOutputs, fedArrival, messageArrival, hasPlaces}
+use Rattle.pe_run.specs.Run.{Table, lent, LongFor}
 
 -- a chunk that arrives reaches the table; a refusal changes nothing
 abbrev pub reached : Shape → Table → List ℕ → List ℕ → Reply Arrival → Fed
 reached shape t out-header out-body (granted a) = atTable shape (lent t out-header out-body) (a .peer) (a .chunk) (a .time)
 reached shape t out-header out-body (refused number value) = fed (refused number value) (lent t out-header out-body)
 
-module _ (shape : Shape) (t : Table) (ok : Roomy shape t) where
+module _ (shape : Shape) (t : Table) (ok : LongFor shape t) where
   -- ---- question 30
   pub numbers-asked : hasNumbers shape (t .numbers) ≡ true
   unfolding hasRooms
   numbers-asked = and-told _ _ (and-told _ _ (and-told _ _ ok .0) .0) .0
 
-  pub all-asked : (out-header out-body : List ℕ) → hasAll shape (lent t out-header out-body) ≡ hasOutputsIn (shape .«header_bytes») (shape .«tx_bytes») out-header out-body
+  pub all-asked : (out-header out-body : List ℕ) → hasAll shape (lent t out-header out-body) ≡ hasOutputs shape out-header out-body
   unfolding hasAll
   all-asked out-header out-body = rw ok
 
@@ -42,31 +41,31 @@ module _ (shape : Shape) (t : Table) (ok : Roomy shape t) where
   module _ (out-header out-body : List ℕ) (now-ms : ℕ) where
     read-ahead : (r : Reply Fields) (peer : ℕ) (bytes : List ℕ)
         → chunkRead r shape (lent t out-header out-body) peer bytes now-ms
-        ≡ reached shape t out-header out-body (andThen r (λ (f : Fields). granted (record { peer = peer; bytes = bytes; chunk = chunkOf bytes f; time = now-ms })))
+        ≡ reached shape t out-header out-body (andThen r (λ (f : Fields). granted (arrival peer bytes (chunkOf bytes f) now-ms out-header out-body)))
     read-ahead (granted f) peer bytes = refl
     read-ahead (refused number value) peer bytes = refl
 
     pub feed-ahead : (peer : ℕ) (chunk : List ℕ)
-        → feedCall shape (lent t out-header out-body) peer chunk now-ms ≡ reached shape t out-header out-body (fedArrivalIn (shape .«header_bytes») (shape .«tx_bytes») peer chunk now-ms out-header out-body)
-    unfolding feedCall fedArrivalIn
-    feed-ahead peer chunk = rw (all-asked out-header out-body) (go (hasOutputsIn (shape .«header_bytes») (shape .«tx_bytes») out-header out-body) (isMuid peer))
+        → feedCall shape (lent t out-header out-body) peer chunk now-ms ≡ reached shape t out-header out-body (fedArrival shape peer chunk now-ms out-header out-body)
+    unfolding feedCall fedArrival
+    feed-ahead peer chunk = rw (all-asked out-header out-body) (go (hasOutputs shape out-header out-body) (isMuid peer))
       where
         go : (outputs muid : Bool)
             → cond outputs (cond muid (chunkRead (readFields chunk) shape (lent t out-header out-body) peer chunk now-ms) (fed (refused 28 0) (lent t out-header out-body)))
             (fed (refused 30 0) (lent t out-header out-body))
-            ≡ reached shape t out-header out-body (cond outputs (cond muid (arriving peer chunk now-ms) (refused 28 0)) (refused 30 0))
+            ≡ reached shape t out-header out-body (cond outputs (cond muid (arriving peer chunk now-ms out-header out-body) (refused 28 0)) (refused 30 0))
         go true true = read-ahead (readFields chunk) peer chunk
         go true false = refl
         go false muid = refl
 
     pub message-ahead : (message : List ℕ)
-        → messageCall shape (lent t out-header out-body) message now-ms ≡ reached shape t out-header out-body (messageArrivalIn (shape .«header_bytes») (shape .«tx_bytes») message now-ms out-header out-body)
-    unfolding messageCall messageArrivalIn
-    message-ahead message = rw (all-asked out-header out-body) (go (hasOutputsIn (shape .«header_bytes») (shape .«tx_bytes») out-header out-body) (readMessage message))
+        → messageCall shape (lent t out-header out-body) message now-ms ≡ reached shape t out-header out-body (messageArrival shape message now-ms out-header out-body)
+    unfolding messageCall messageArrival
+    message-ahead message = rw (all-asked out-header out-body) (go (hasOutputs shape out-header out-body) (readMessage message))
       where
         go : (outputs : Bool) (r : Reply Message)
             → cond outputs (messageRead r shape (lent t out-header out-body) message now-ms) (fed (refused 30 0) (lent t out-header out-body))
-            ≡ reached shape t out-header out-body (cond outputs (andThen r (λ (m : Message). arriving (m .header .source) (drop 13 message) now-ms)) (refused 30 0))
+            ≡ reached shape t out-header out-body (cond outputs (andThen r (λ (m : Message). arriving (m .header .source) (drop 13 message) now-ms out-header out-body)) (refused 30 0))
         go true (granted m) = read-ahead (readFields (drop 13 message)) (m .header .source) (drop 13 message)
         go true (refused number value) = refl
         go false r = refl
@@ -102,7 +101,7 @@ pub record Small (shape : Shape) (out-header out-body : List ℕ) (a : Arrival) 
   pub property : length (a .chunk .property) ≤ 16383
 
 module _ (shape : Shape) (now-ms : ℕ) (out-header out-body : List ℕ) (a : Arrival) where
-  arriving-small : (peer : ℕ) (bytes : List ℕ) → hasOutputsIn (shape .«header_bytes») (shape .«tx_bytes») out-header out-body ≡ true → arriving peer bytes now-ms ≡ granted a → Small shape out-header out-body a
+  arriving-small : (peer : ℕ) (bytes : List ℕ) → hasOutputs shape out-header out-body ≡ true → arriving peer bytes now-ms out-header out-body ≡ granted a → Small shape out-header out-body a
   arriving-small peer bytes o q =
       let f = first-granted (readFields bytes) _ a q in
       let r = read-in-range bytes (f .0) (f .1) in
@@ -110,34 +109,25 @@ module _ (shape : Shape) (now-ms : ℕ) (out-header out-body : List ℕ) (a : Ar
       subst (Small shape out-header out-body) (same-grant _ _ a refl (f .2))
       (record { header-room = leb-true _ _ (e .0); body-room = leb-true _ _ (e .1); number = r .number; property = r .property-len })
 
-  pub fed-small : (peer : ℕ) (chunk : List ℕ) → fedArrivalIn (shape .«header_bytes») (shape .«tx_bytes») peer chunk now-ms out-header out-body ≡ granted a → Small shape out-header out-body a
-  unfolding fedArrivalIn
+  pub fed-small : (peer : ℕ) (chunk : List ℕ) → fedArrival shape peer chunk now-ms out-header out-body ≡ granted a → Small shape out-header out-body a
+  unfolding fedArrival
   fed-small peer chunk q =
-      let b = asked (hasOutputsIn (shape .«header_bytes») (shape .«tx_bytes») out-header out-body) 30 _ a q in
+      let b = asked (hasOutputs shape out-header out-body) 30 _ a q in
       let m = asked (isMuid peer) 28 _ a (b .1) in
       arriving-small peer chunk (b .0) (m .1)
 
-  pub message-small : (message : List ℕ) → messageArrivalIn (shape .«header_bytes») (shape .«tx_bytes») message now-ms out-header out-body ≡ granted a → Small shape out-header out-body a
-  unfolding messageArrivalIn
+  pub message-small : (message : List ℕ) → messageArrival shape message now-ms out-header out-body ≡ granted a → Small shape out-header out-body a
+  unfolding messageArrival
   message-small message q =
-      let b = asked (hasOutputsIn (shape .«header_bytes») (shape .«tx_bytes») out-header out-body) 30 _ a q in
+      let b = asked (hasOutputs shape out-header out-body) 30 _ a q in
       let m = first-granted (readMessage message) _ a (b .1) in
       arriving-small (m .0 .header .source) (drop 13 message) (b .0) (m .2)
 
 -- ---- memory long enough for full size
-pub roomy-long : (n : ℕ) (t : Table) → n ≤ 16 → LongEnough n t → Roomy (fullSize n) t
+pub long-enough : (n : ℕ) (t : Table) → n ≤ 16 → LongEnough n t → LongFor (fullSize n) t
 unfolding hasRooms hasNumbers inRange
-roomy-long n t few long =
+long-enough n t few long =
     let i : 4 * n * 2048 ≤ length (t .index) = omega (arith, long .index) in
     let h : 4 * n * 4096 ≤ length (t .headers) = omega (arith, long .headers) in
     let a : 4 * n * 65536 ≤ length (t .arenas) = omega (arith, long .arenas) in
     rw (le-leb _ _ few, le-leb _ _ (long .numbers), le-leb _ _ i, le-leb _ _ h, le-leb _ _ a)
-
-pub long-roomy : (n : ℕ) (t : Table) → Roomy (fullSize n) t → LongEnough n t
-long-roomy n t ok =
-    let r = rooms-told (fullSize n) (t .numbers) (t .index) (t .headers) (t .arenas) ok in
-    let a = r .numbers-long in
-    let b = r .index-long in
-    let c = r .headers-long in
-    let d = r .arenas-long in
-    record { numbers = omega arith; index = omega arith; headers = omega arith; arenas = omega arith }

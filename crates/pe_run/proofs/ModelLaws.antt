@@ -13,8 +13,9 @@ use Rattle.seven_bit.specs.Reply.{refused}
 use Rattle.seven_bit.proofs.ReplyLaws.{both, and-told}
 use Rattle.pe_frame.specs.Chunk.{Chunk}
 use Rattle.pe_reassembler.specs.Open.{Perm, empty, skip, swap, then}
+use Rattle.pe_reassembler.specs.declared.shape.Shape.{Shape}
 use Rattle.pe_run.specs.Lists.{keep, tally}
-use Rattle.pe_run.specs.Model.{Open, Entry, Model, isAt, isOf, isLate, find, findsRecord, hasFour, touchedAt, judged, entryOf, without, arrived, arrives, Act, arrive, cancel, drop, poll, nothing, after}
+use Rattle.pe_run.specs.Model.{Open, Entry, Model, isAt, isOf, isLate, find, findsRecord, hasFour, touchedAt, judged, entryOf, without, arrived, arrives, Act, arrive, cancel, drop, poll, nothing, acted}
 use Rattle.pe_run.proofs.ListLaws.{eqb-sym, tally-keep}
 
 -- ---- finding
@@ -98,7 +99,7 @@ perm-find peer id p u = perm-both p u .0 peer id
 pub perm-unique : {xs ys : Model} → Perm xs ys → Unique xs → Unique ys
 perm-unique p u = perm-both p u .1
 
-unique-keep : (test : Entry → Bool) (b : Model) → Unique b → Unique (keep test b)
+pub unique-keep : (test : Entry → Bool) (b : Model) → Unique b → Unique (keep test b)
 unique-keep test [] u = tt
 unique-keep test (e ∷ b) u = go (test e) (unique-keep test b (u .1))
   where
@@ -111,25 +112,18 @@ unique-arrived peer id b none u = unique-keep (λ (e : Entry). not (isAt peer id
 unique-arrived peer id b (some x) u = (find-without peer id b, unique-keep (λ (e : Entry). not (isAt peer id e)) b u)
 
 -- what holds of the model, and of it with what a chunk leaves, holds after a chunk
-arrives-keeps : (P : Model → Type 0) (n : ℕ) (b : Model) (peer : ℕ) (c : Chunk) (now-ms : ℕ) → P b
+arrives-keeps : (P : Model → Type 0) (shape : Shape) (b : Model) (peer : ℕ) (c : Chunk) (now-ms : ℕ) → P b
     → (hasFour peer (c .request-id) b ≡ false → (o : Option Open) → P (entryOf peer (c .request-id) o ++ without peer (c .request-id) b))
-    → P (arrives n b peer c now-ms .model)
+    → P (arrives shape b peer c now-ms .model)
 unfolding arrives
-arrives-keeps P n b peer c now-ms same changed = go (not (findsRecord n peer b)) (hasFour peer (c .request-id) b) refl
+arrives-keeps P shape b peer c now-ms same changed = go (not (findsRecord (shape .«max_peers») peer b)) (hasFour peer (c .request-id) b) refl
   where
     go : (u v : Bool) → hasFour peer (c .request-id) b ≡ v
         → P (cond u (record { model = b; answer = refused 7 0 }) (cond v (record { model = b; answer = refused 6 0 })
-        (arrived peer (c .request-id) b (judged (touchedAt (find peer (c .request-id) b) now-ms) c))) .model)
+        (arrived peer (c .request-id) b (judged shape (touchedAt (find peer (c .request-id) b) now-ms) c))) .model)
     go true v e = same
     go false true e = same
-    go false false e = changed e (judged (touchedAt (find peer (c .request-id) b) now-ms) c .left)
-
-pub unique-step : (n : ℕ) (b : Model) (act : Act) → Unique b → Unique (after n b act)
-unique-step n b (arrive peer c now-ms) u = arrives-keeps Unique n b peer c now-ms u (λ e o. unique-arrived peer (c .request-id) b o u)
-unique-step n b (cancel peer id) u = unique-keep (λ (e : Entry). not (isAt peer id e)) b u
-unique-step n b (drop peer) u = unique-keep (λ (e : Entry). not (isOf peer e)) b u
-unique-step n b (poll now-ms) u = unique-keep (λ (e : Entry). not (isLate now-ms e)) b u
-unique-step n b nothing u = u
+    go false false e = changed e (judged shape (touchedAt (find peer (c .request-id) b) now-ms) c .left)
 
 -- ---- at most four
 abbrev pub Four : Model → Type 0
@@ -163,9 +157,9 @@ four-arrived peer id b (some y) h e other = go (both (eqb other peer)) (find pee
         (omega (arith, leb-false 4 (tally (isOf peer) b) spare, tally-keep (isOf peer) (λ (z : Entry). not (isAt peer id z)) b)))
     go (inr a) o w = rw a (four-keep (λ (z : Entry). not (isAt peer id z)) b h other)
 
-pub four-step : (n : ℕ) (b : Model) (act : Act) → Four b → Four (after n b act)
-four-step n b (arrive peer c now-ms) h = arrives-keeps Four n b peer c now-ms h (λ e o. four-arrived peer (c .request-id) b o h e)
-four-step n b (cancel peer id) h = four-keep (λ (e : Entry). not (isAt peer id e)) b h
-four-step n b (drop peer) h = four-keep (λ (e : Entry). not (isOf peer e)) b h
-four-step n b (poll now-ms) h = four-keep (λ (e : Entry). not (isLate now-ms e)) b h
-four-step n b nothing h = h
+pub four-step : (shape : Shape) (b : Model) (act : Act) → Four b → Four (acted shape b act)
+four-step shape b (arrive peer c now-ms) h = arrives-keeps Four shape b peer c now-ms h (λ e o. four-arrived peer (c .request-id) b o h e)
+four-step shape b (cancel peer id) h = four-keep (λ (e : Entry). not (isAt peer id e)) b h
+four-step shape b (drop peer) h = four-keep (λ (e : Entry). not (isOf peer e)) b h
+four-step shape b (poll now-ms) h = four-keep (λ (e : Entry). not (isLate now-ms e)) b h
+four-step shape b nothing h = h

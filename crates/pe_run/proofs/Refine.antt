@@ -12,9 +12,9 @@ use lib.ListN.{length, replicate, length-replicate}
 use Rattle.seven_bit.proofs.ReplyLaws.{and-told}
 use Rattle.pe_reassembler.specs.Open.{Perm, empty, then}
 use Rattle.pe_run.specs.Lists.{keep, tally}
-use Rattle.pe_run.specs.Model.{Open, Entry, Model, isAt, isOf, find, isNone, openOf, peerOf, peersOpen, entryOf, without, after}
+use Rattle.pe_run.specs.Model.{Open, Entry, Model, isAt, isOf, find, isNone, openOf, peerOf, peersOpen, entryOf, without}
 use Rattle.pe_run.proofs.ListLaws.{eqb-self, All, NoneOf, keep-append, tally-append}
-use Rattle.pe_run.proofs.PermLaws.{perm-refl, perm-sym, perm-map, perm-keep, perm-tally, perm-kinds, perm-append-left, perm-middle}
+use Rattle.pe_run.proofs.PermLaws.{perm-refl, perm-sym, perm-map, perm-keep, perm-tally, perm-different, perm-append-left, perm-middle}
 use Rattle.pe_run.proofs.ModelLaws.{key, find-append, without-none, Unique, perm-find, perm-unique, unique-arrived, Four}
 use Rattle.pe_run.proofs.Value.{Cell, Rec, Value, noRec, hasId, isOwn, cellOpen, cellsOpen, recsOpen, opens, withCells}
 use Rattle.pe_run.proofs.Places.{Split, split-length, split-all, split-hit}
@@ -38,7 +38,7 @@ module _ {n : ℕ} {v : Value} {b : Model} (rel : Rel n v b) where
   find-is peer id = sym (perm-find peer id (rel .same) (perm-unique (perm-sym (rel .same)) (rel .unique)))
 
   pub peers-are : peersOpen b ≡ tally isBusy (v .recs)
-  peers-are = sym (perm-kinds (perm-map peerOf (rel .same))) ∙ peers-recs (v .recs) (rel .tidy)
+  peers-are = sym (perm-different (perm-map peerOf (rel .same))) ∙ peers-recs (v .recs) (rel .tidy)
 
   pub four-open : Four b → (peer : ℕ) → tally (isOf peer) (opens v) ≤ 4
   four-open h peer = subst (λ (k : ℕ). k ≤ 4) (tally-is peer) (h peer)

@@ -16,7 +16,8 @@ use Rattle.pe_frame.specs.Chunk.{Chunk}
 use Rattle.pe_slot.specs.Slot.{Slot, held, allHeld, bodyLen, isWhole, Event, waiting, whole, eventOf, headerFits, sameHeader, headerAgrees, isNone, newHeader, countAgrees, newCount, afterChunk, passed, judge}
 use Rattle.pe_slot.proofs.OrderHeldLaws.{all-yes, all-no}
 use Rattle.pe_run.specs.Lists.{memb}
-use Rattle.pe_run.specs.Model.{judgedAt, Open, Judged, judged}
+use Rattle.pe_run.specs.Model.{Open, Judged, judged}
+use Rattle.pe_run.specs.Demand.{fullSize}
 use Rattle.pe_run.proofs.ListLaws.{eqb-sym, all-middle, memb-append, distinct-middle}
 use Rattle.pe_run.proofs.Pieces.{numOf, held-memb, body-len-append}
 use Rattle.pe_run.proofs.Chunks.{pieceIn, piecesIn, numbers, Of, Good}
@@ -41,9 +42,9 @@ judgedTo left event = record { left = left; answer = granted event }
 abbrev pub settled : ℕ → Slot → Judged
 settled time s = judgedTo (cond (isWhole (s .header) (s .count) (s .pieces)) none (some (openAt time s))) (eventOf (s .header) (s .count) (s .pieces))
 
-judged-passed : (time : ℕ) (s : Slot) (c : Chunk) → Passes s c → judged (openAt time s) c ≡ settled time (afterChunk s c (newHeader s c) (newCount s c) true)
-unfolding judgedAt judge passed
-judged-passed time s c k = rw (k .fits, k .agrees, k .counts, k .named, k .fresh, k .few, k .roomy) refl
+judged-passed : (n time : ℕ) (s : Slot) (c : Chunk) → Passes s c → judged (fullSize n) (openAt time s) c ≡ settled time (afterChunk s c (newHeader s c) (newCount s c) true)
+unfolding judged judge passed
+judged-passed n time s c k = rw (k .fits, k .agrees, k .counts, k .named, k .fresh, k .few, k .roomy) refl
 
 -- ---- a slot that holds chunks of a list: its header is there if number 1 is
 abbrev headerWith : List ℕ → List Chunk → Option (List ℕ)
@@ -133,9 +134,9 @@ module _ {n : ℕ} {header body : List ℕ} (held-now : List Chunk) (c : Chunk) 
   after-held count k = rw (after-header, after-count count k, map-append pieceIn held-now (c ∷ [])) refl
 
   -- A chunk of the list is taken: nothing refuses it.
-  pub judged-good : (time count : ℕ) → (eqb count 0 || eqb count n) ≡ true
-      → judged (openAt time (slotWith header count held-now)) c ≡ settled time (slotWith header n (held-now ++ (c ∷ [])))
-  judged-good time count k = judged-passed time (slotWith header count held-now) c (passes count k) ∙ ap (settled time) (after-held count k)
+  pub judged-good : (peers time count : ℕ) → (eqb count 0 || eqb count n) ≡ true
+      → judged (fullSize peers) (openAt time (slotWith header count held-now)) c ≡ settled time (slotWith header n (held-now ++ (c ∷ [])))
+  judged-good peers time count k = judged-passed peers time (slotWith header count held-now) c (passes count k) ∙ ap (settled time) (after-held count k)
 
   -- While one is missing the slot waits.
   pub settled-wait : (time : ℕ) → settled time (slotWith header n held-now) ≡ judgedTo (some (openAt time (slotWith header n held-now))) waiting

@@ -14,7 +14,7 @@ use Rattle.pe_reassembler.specs.declared.shape.Shape.{Shape}
 use Rattle.pe_reassembler.specs.Table.{peerAt, isBound, orElse}
 use Rattle.pe_reassembler.specs.Feed.{wordsPart, roomPart, nextTick}
 use Rattle.pe_run.specs.Lists.{tally}
-use Rattle.pe_run.specs.Model.{Open, Entry, Model, isNone, entryOf, touchedAt, Judged, judgedAt}
+use Rattle.pe_run.specs.Model.{Open, Entry, Model, isNone, entryOf, touchedAt, Judged, judged}
 use Rattle.pe_run.specs.Run.{Table}
 
 pub record Cell : Type 0 where
@@ -129,7 +129,7 @@ cellWith tick request-id (some o) = record { tick = tick; request-id = request-i
 
 unfoldable pub takeCell : Shape → Value → ℕ → Chunk → ℕ → ℕ → Rec → ℕ → Taken
 takeCell shape v peer c now-ms p r s =
-    let j : Judged = judgedAt (shape .«header_bytes») (shape .«tx_bytes») (shape .«fragment_records») (touchedAt (getD (r .cells) s noCell .state) now-ms) c in
+    let j : Judged = judged shape (touchedAt (getD (r .cells) s noCell .state) now-ms) c in
     record {
       value = record {
         clock = nextTick (v .clock);

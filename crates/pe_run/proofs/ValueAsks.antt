@@ -19,13 +19,7 @@ use Rattle.pe_reassembler.specs.declared.shape.Shape.{Shape}
 use Rattle.pe_run.specs.Run.{Table}
 use Rattle.pe_run.proofs.Value.{Rec, cellOf, place, isFree, hasId, isOwn, isUnbound, isIdle, choose, chooseCell, cellAt, recAt, recsFrom}
 use Rattle.pe_run.proofs.PlaceOf.{tab, search}
-
-eqb-swap : (a b : ℕ) → eqb a b ≡ eqb b a
-eqb-swap a b = go (both (eqb a b))
-  where
-    go : (eqb a b ≡ true) ⊎ (eqb a b ≡ false) → eqb a b ≡ eqb b a
-    go (inl e) = e ∙ sym (eq-eqb b a (sym (eqb-true a b e)))
-    go (inr e) = e ∙ sym (ne-eqb b a (λ q. eqb-false a b e (sym q)))
+use Rattle.pe_run.proofs.ListLaws.{eqb-sym}
 
 -- a cell is free as its slot is not active
 free-is : (words index header arena : List ℕ) → isFree (cellOf words index header arena) ≡ eqb (getD words 0 0) 0
@@ -55,11 +49,11 @@ module _ (shape : Shape) (t : Table) where
   has-id-is : (request-id p s : ℕ) → idAt (t .numbers) request-id p s ≡ hasId request-id (cellAt shape t p s)
   unfolding idAt
   has-id-is request-id p s =
-      ap₂ _&&_ (active-is p s) (eqb-swap (getD (t .numbers) (slotAt p s + 1) 0) request-id ∙ ap (λ (x : ℕ). eqb request-id x) (sym (id-at p s)))
+      ap₂ _&&_ (active-is p s) (eqb-sym (getD (t .numbers) (slotAt p s + 1) 0) request-id ∙ ap (λ (x : ℕ). eqb request-id x) (sym (id-at p s)))
 
   pub own-is : (peer p : ℕ) → boundTo (t .numbers) peer p ≡ isOwn peer (recAt shape t p)
   unfolding boundTo recAt
-  own-is peer p = ap (λ (b : Bool). isBound (t .numbers) p && b) (eqb-swap _ peer)
+  own-is peer p = ap (λ (b : Bool). isBound (t .numbers) p && b) (eqb-sym _ peer)
 
   unbound-is : (p : ℕ) → not (isBound (t .numbers) p) ≡ isUnbound (recAt shape t p)
   unfolding recAt

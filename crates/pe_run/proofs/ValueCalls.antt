@@ -18,7 +18,7 @@ use Rattle.pe_reassembler.proofs.TableLaws.{numbers-long, record-of-below, slot
 use Rattle.pe_reassembler.proofs.EffectsClose.{close-words, close-words-other, close-peer, close-clock, close-length, drop-words, drop-words-other, drop-bound, drop-muid-kept, drop-peer-other, drop-clock, drop-length}
 use Rattle.pe_run.specs.Lists.{tally}
 use Rattle.pe_run.specs.Model.{isNone}
-use Rattle.pe_run.specs.Run.{Table, renumbered, Roomy}
+use Rattle.pe_run.specs.Run.{Table, renumbered, LongFor}
 use Rattle.pe_reassembler.specs.declared.shape.Shape.{Shape}
 use Rattle.pe_run.proofs.Ahead.{numbers-asked}
 use Rattle.pe_run.proofs.Value.{Cell, Rec, cellOf, noRec, noCell, up, place, isFree, hasId, isOwn, shut, withCells, withRecs, onFirst, cancelled, shutOpen, dropRec, dropped, some-cell, cancels, drops, cellAt, recAt, recsFrom, valueOf}
@@ -39,7 +39,7 @@ some-is test (c ∷ cells) = rw (some-is test cells) (go (test c) (place test ce
 
 -- what is told of the first record that a test takes
 module _ {B : Type 0} (test : Rec → Bool) (f : Rec → B) (g : List Rec → B) (turn : (r : Rec) (l : List Rec) → g (r ∷ l) ≡ cond (test r) (f r) (g l)) where
-  told-at : (l : List Rec) (p : ℕ) → place test l ≡ some p → g l ≡ f (getD l p noRec)
+  pub told-at : (l : List Rec) (p : ℕ) → place test l ≡ some p → g l ≡ f (getD l p noRec)
   told-at [] p e = cc
   told-at (r ∷ l) p e = turn r l ∙ go (test r) (place test l) refl e (told-at l)
     where
@@ -49,7 +49,7 @@ module _ {B : Type 0} (test : Rec → Bool) (f : Rec → B) (g : List Rec → B)
       go false none w q h = cc
       go false (some i) w q h = subst (λ (k : ℕ). g l ≡ f (getD (r ∷ l) k noRec)) (let z : suc i ≡ p = cc in z) (h i w)
 
-  told-none : (l : List Rec) → place test l ≡ none → g l ≡ g []
+  pub told-none : (l : List Rec) → place test l ≡ none → g l ≡ g []
   told-none [] e = refl
   told-none (r ∷ l) e = turn r l ∙ go (test r) (place test l) refl e (told-none l)
     where
@@ -63,7 +63,7 @@ module _ (shape : Shape) (t : Table) (numbers′ : List ℕ) where
   abbrev t′ : Table
   t′ = renumbered t numbers′
 
-  pub renumbered-long : Roomy shape t → length numbers′ ≡ length (t .numbers) → Roomy shape t′
+  pub renumbered-long : LongFor shape t → length numbers′ ≡ length (t .numbers) → LongFor shape t′
   unfolding hasRooms hasNumbers
   renumbered-long l e = rw e l
 
@@ -91,9 +91,9 @@ value-with shape t t′ e f = rw (e, f)
 pub record CancelValue (shape : Shape) (t : Table) (peer request-id : ℕ) (r : Numbered Bool) : Type 0 where
   pub value-is : valueOf shape (renumbered t (r .numbers)) ≡ cancelled (valueOf shape t) peer request-id
   pub answer-is : r .answer ≡ granted (cancels peer request-id (valueOf shape t .recs))
-  pub long : Roomy shape (renumbered t (r .numbers))
+  pub long : LongFor shape (renumbered t (r .numbers))
 
-module _ (shape : Shape) (t : Table) (peer request-id : ℕ) (ok : Roomy shape t) where
+module _ (shape : Shape) (t : Table) (peer request-id : ℕ) (ok : LongFor shape t) where
   abbrev recs : List Rec
   recs = recsFrom shape t 0 (shape .«max_peers»)
 
@@ -170,7 +170,7 @@ module _ (shape : Shape) (t : Table) (peer request-id : ℕ) (ok : Roomy shape t
 pub record DropValue (shape : Shape) (t : Table) (peer : ℕ) (r : Numbered ℕ) : Type 0 where
   pub value-is : valueOf shape (renumbered t (r .numbers)) ≡ dropped (valueOf shape t) peer
   pub answer-is : r .answer ≡ granted (drops peer (valueOf shape t .recs))
-  pub long : Roomy shape (renumbered t (r .numbers))
+  pub long : LongFor shape (renumbered t (r .numbers))
 
 -- the open cells of a record, counted
 counted : (shape : Shape) (t : Table) (p : ℕ) → tally (λ (c : Cell). not (isFree c)) (recAt shape t p .cells)
@@ -206,7 +206,7 @@ rec-dropped : (shape : Shape) (t t′ : Table) (p : ℕ) → isBound (t′ .numb
 unfolding recAt
 rec-dropped shape t t′ p e f g = rec-is shape t′ p e f g
 
-module _ (shape : Shape) (t : Table) (peer : ℕ) (ok : Roomy shape t) where
+module _ (shape : Shape) (t : Table) (peer : ℕ) (ok : LongFor shape t) where
   drop-at : (o : Option ℕ) → recordOf shape (t .numbers) peer ≡ o → DropValue shape t peer (dropAt o (t .numbers))
   unfolding dropped valueOf
   drop-at none e =

@@ -19,8 +19,8 @@ use Rattle.pe_reassembler.proofs.SlotLengths.{words-length, records-length, hea
 use Rattle.pe_reassembler.proofs.SoundLaws.{SlotsSound}
 use Rattle.pe_reassembler.proofs.Effects.{Sized as AfterSized, lifted-words, lifted-index, lifted-header, lifted-arena, lifted-words-other, lifted-index-other, lifted-header-other, lifted-arena-other, lifted-bound, lifted-muid, lifted-peer-other, lifted-clock, lifted-lengths}
 use Rattle.pe_reassembler.specs.declared.shape.Shape.{Shape}
-use Rattle.pe_run.specs.Model.{touchedAt, Judged, judgedAt}
-use Rattle.pe_run.specs.Run.{Table, lent, kept, Roomy}
+use Rattle.pe_run.specs.Model.{touchedAt, Judged, judged}
+use Rattle.pe_run.specs.Run.{Table, lent, kept, LongFor}
 use Rattle.pe_run.proofs.Ahead.{numbers-asked}
 use Rattle.pe_run.proofs.Value.{Cell, Rec, Value, Taken, cellOf, noCell, chooseCell, cellWith, cellAt, recAt, recsFrom, valueOf, takeCell, takeRec, takeAt, takes}
 use Rattle.pe_run.proofs.ValueAsks.{record-for-is, slot-for-is}
@@ -28,7 +28,7 @@ use Rattle.pe_run.proofs.ValueSlot.{Sized, fed-cell, fed-told}
 use Rattle.pe_run.proofs.ValuePlaces.{rec-at, cell-at, rec-is, cell-same, cell-kept, rec-kept, cells-set, recs-set}
 
 -- what a slot left in its place
-module _ (shape : Shape) (t : Table) (out-header out-body : List ℕ) (peer p s : ℕ) (a : After) (ok : Roomy shape t)
+module _ (shape : Shape) (t : Table) (out-header out-body : List ℕ) (peer p s : ℕ) (a : After) (ok : LongFor shape t)
     (size : AfterSized shape a) (hp : p < (shape .«max_peers»)) (hs : s < 4) where
   abbrev m : Memory
   m = lent t out-header out-body
@@ -68,7 +68,7 @@ module _ (shape : Shape) (t : Table) (out-header out-body : List ℕ) (peer p s 
       (lifted-clock shape m peer p s a ok size hp hs)
       (recs-set shape t t′ (shape .«max_peers») p hp other-rec ∙ ap (λ (r : Rec). set (recsFrom shape t 0 (shape .«max_peers»)) p r) own-rec)
 
-  lifted-long : Roomy shape t′
+  lifted-long : LongFor shape t′
   unfolding hasRooms hasNumbers
   lifted-long =
       let e = lifted-lengths shape m peer p s a ok size hp hs in
@@ -80,9 +80,9 @@ pub record FeedValue (shape : Shape) (out-header out-body : List ℕ) (taken : T
   pub answer-is : r .answer ≡ toldAnswer (taken .answer)
   pub out-header-is : r .memory .out-header ≡ outHeader (taken .answer) out-header
   pub out-body-is : r .memory .out-body ≡ outBody (taken .answer) out-body
-  pub long : Roomy shape (kept r)
+  pub long : LongFor shape (kept r)
 
-module _ (shape : Shape) (t : Table) (out-header out-body : List ℕ) (peer : ℕ) (c : Chunk) (now-ms : ℕ) (ok : Roomy shape t)
+module _ (shape : Shape) (t : Table) (out-header out-body : List ℕ) (peer : ℕ) (c : Chunk) (now-ms : ℕ) (ok : LongFor shape t)
     (sound : SlotsSound shape (t .numbers) (t .index))
     (header-room : shape .«header_bytes» ≤ length out-header) (body-room : shape .«tx_bytes» ≤ length out-body) (short : length (c .property) ≤ 16383) (named : c .chunk-num < 65536) where
   abbrev m₀ : Memory
@@ -100,14 +100,14 @@ module _ (shape : Shape) (t : Table) (out-header out-body : List ℕ) (peer : �
     cell = cellOf (wordsPart (t .numbers) p s) (roomPart (shape .«fragment_records») (t .index) p s) (roomPart (shape .«header_bytes») (t .headers) p s) (roomPart (shape .«tx_bytes») (t .arenas) p s)
 
     abbrev told : Judged
-    told = judgedAt (shape .«header_bytes») (shape .«tx_bytes») (shape .«fragment_records») (touchedAt (cell .state) now-ms) c
+    told = judged shape (touchedAt (cell .state) now-ms) c
 
     cell-is : getD (recAt shape t p .cells) s noCell ≡ cell
     unfolding cellAt
     cell-is = cell-at shape t p s hs
 
-    told-is : told ≡ judgedAt (shape .«header_bytes») (shape .«tx_bytes») (shape .«fragment_records») (touchedAt (getD (recAt shape t p .cells) s noCell .state) now-ms) c
-    told-is = ap (λ (x : Cell). judgedAt (shape .«header_bytes») (shape .«tx_bytes») (shape .«fragment_records») (touchedAt (x .state) now-ms) c) (sym cell-is)
+    told-is : told ≡ judged shape (touchedAt (getD (recAt shape t p .cells) s noCell .state) now-ms) c
+    told-is = ap (λ (x : Cell). judged shape (touchedAt (x .state) now-ms) c) (sym cell-is)
 
     sized : Sized shape (wordsPart (t .numbers) p s) (roomPart (shape .«fragment_records») (t .index) p s) (roomPart (shape .«header_bytes») (t .headers) p s) (roomPart (shape .«tx_bytes») (t .arenas) p s)
     sized =

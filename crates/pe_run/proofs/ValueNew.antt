@@ -9,7 +9,7 @@ use lib.ListN.{replicate}
 use Rattle.pe_reassembler.specs.Table.{hasNumbers, hasRooms}
 use Rattle.pe_reassembler.specs.Feed.{roomPart}
 use Rattle.pe_reassembler.proofs.EffectsNew.{new-words, new-bound, new-muid, new-clock, new-lengths}
-use Rattle.pe_run.specs.Run.{Table, Roomy, made}
+use Rattle.pe_run.specs.Run.{Table, LongFor, made}
 use Rattle.pe_reassembler.specs.declared.shape.Shape.{Shape}
 use Rattle.pe_run.proofs.Value.{Rec, cellOf, noCell, noRec, cellAt, recAt, valueOf}
 use Rattle.pe_run.proofs.PlaceOf.{tab-replicate}
@@ -21,7 +21,7 @@ zero-cell : (index header arena : List ℕ) → cellOf (replicate 9 0) index hea
 unfolding cellOf
 zero-cell index header arena = refl
 
-module _ (shape : Shape) (t : Table) (ok : Roomy shape t) where
+module _ (shape : Shape) (t : Table) (ok : LongFor shape t) where
   new-cell : (p s : ℕ) → p < (shape .«max_peers») → s < 4 → cellAt shape (made shape t) p s ≡ noCell
   unfolding cellAt
   new-cell p s hp hs =
@@ -42,7 +42,7 @@ module _ (shape : Shape) (t : Table) (ok : Roomy shape t) where
       (new-clock shape (t .numbers) (t .index) (t .headers) (t .arenas) ok)
       (recs-tab shape (made shape t) 0 (shape .«max_peers») ∙ tab-replicate (recAt shape (made shape t)) noRec 0 (shape .«max_peers») (λ p hp. new-rec p (omega arith)))
 
-  pub new-long : Roomy shape (made shape t)
+  pub new-long : LongFor shape (made shape t)
   unfolding hasRooms hasNumbers
   new-long =
       let e = new-lengths shape (t .numbers) (t .index) (t .headers) (t .arenas) ok in

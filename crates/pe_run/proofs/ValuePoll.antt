@@ -16,7 +16,7 @@ use Rattle.pe_reassembler.proofs.PlaceLaws.{get-part}
 use Rattle.pe_reassembler.proofs.EffectsClose.{active-of, due-words, due-peer, due-clock, due-length}
 use Rattle.pe_run.specs.Model.{Open}
 use Rattle.pe_run.specs.Calls.{hasPlaces}
-use Rattle.pe_run.specs.Run.{Table, renumbered, Roomy}
+use Rattle.pe_run.specs.Run.{Table, renumbered, LongFor}
 use Rattle.pe_reassembler.specs.declared.shape.Shape.{Shape}
 use Rattle.pe_run.proofs.Ahead.{numbers-asked}
 use Rattle.pe_reassembler.proofs.TableLaws.{numbers-long}
@@ -41,9 +41,9 @@ due-is shape t now-ms p s =
 
 pub record PollValue (shape : Shape) (t : Table) (now-ms : ℕ) (r : Polled) : Type 0 where
   pub value-is : valueOf shape (renumbered t (r .numbers)) ≡ polled (valueOf shape t) now-ms
-  pub long : Roomy shape (renumbered t (r .numbers))
+  pub long : LongFor shape (renumbered t (r .numbers))
 
-module _ (shape : Shape) (t : Table) (now-ms : ℕ) (out-peers out-ids : List ℕ) (ok : Roomy shape t) where
+module _ (shape : Shape) (t : Table) (now-ms : ℕ) (out-peers out-ids : List ℕ) (ok : LongFor shape t) where
   abbrev numbers′ : List ℕ
   numbers′ = closeDue now-ms 0 0 (4 * shape .«max_peers») (t .numbers)
 

@@ -19,7 +19,7 @@ use Rattle.pe_slot.proofs.FeedTheorems.{memory-follows, opened}
 use Rattle.pe_reassembler.proofs.TableLaws.{Ranges}
 use Rattle.pe_reassembler.proofs.SoundLaws.{SlotSound}
 use Rattle.pe_reassembler.specs.declared.shape.Shape.{Shape}
-use Rattle.pe_run.specs.Model.{Open, touchedAt, Judged, judgedAt}
+use Rattle.pe_run.specs.Model.{Open, touchedAt, Judged, judged}
 use Rattle.pe_run.proofs.Value.{cellOf, cellWith, shut}
 
 -- a closed slot is a shut cell
@@ -124,16 +124,16 @@ module _ (shape : Shape) (words index header arena : List ℕ) (c : Chunk) (now-
       let g = rw (size .index-size, size .header-size, size .arena-size) at f in
       g q
 
-  left-cell : cellOf (left .words) (left .index) (left .header) (left .arena) ≡ cellWith tick (c .request-id) (judgedAt (shape .«header_bytes») (shape .«tx_bytes») (shape .«fragment_records») (record { time = now-ms; slot = held }) c .left)
-  unfolding judgedAt placed
+  left-cell : cellOf (left .words) (left .index) (left .header) (left .arena) ≡ cellWith tick (c .request-id) (judged shape (record { time = now-ms; slot = held }) c .left)
+  unfolding judged placed
   left-cell = cell-left (verdict .closes) (slotOf words) c verdict (c .request-id) now-ms tick (left .index) (left .header) (left .arena) (slotAfter held c verdict) follows
 
   -- the cell after it, the answer and the outputs
   abbrev told : Judged
-  told = judgedAt (shape .«header_bytes») (shape .«tx_bytes») (shape .«fragment_records») (touchedAt (cellOf words index header arena .state) now-ms) c
+  told = judged shape (touchedAt (cellOf words index header arena .state) now-ms) c
 
-  told-is : told ≡ judgedAt (shape .«header_bytes») (shape .«tx_bytes») (shape .«fragment_records») (record { time = now-ms; slot = held }) c
-  told-is = ap (λ (o : Open). judgedAt (shape .«header_bytes») (shape .«tx_bytes») (shape .«fragment_records») o c) (held-slot shape words index header arena neat now-ms)
+  told-is : told ≡ judged shape (record { time = now-ms; slot = held }) c
+  told-is = ap (λ (o : Open). judged shape o c) (held-slot shape words index header arena neat now-ms)
 
   pub fed-cell : cellOf (fed .words) (fed .index) (fed .header) (fed .arena) ≡ cellWith tick (c .request-id) (told .left)
   fed-cell =
@@ -142,7 +142,7 @@ module _ (shape : Shape) (words index header arena : List ℕ) (c : Chunk) (now-
       ∙ ap (λ (j : Judged). cellWith tick (c .request-id) (j .left)) (sym told-is)
 
   pub fed-told : (fed .answer ≡ toldAnswer (told .answer)) × (fed .out-header ≡ outHeader (told .answer) out-header) × (fed .out-body ≡ outBody (told .answer) out-body)
-  unfolding judgedAt placed
+  unfolding judged placed
   fed-told = (
     ap (λ (x : After). x .answer) fed-is ∙ ap (λ (j : Judged). toldAnswer (j .answer)) (sym told-is),
     ap (λ (x : After). x .out-header) fed-is ∙ ap (λ (j : Judged). outHeader (j .answer) out-header) (sym told-is),

@@ -1,5 +1,5 @@
--- The run: "any sequence of the eight .. with any arguments, naming the shape of a full-size table of n consoles that `new` has just made.
--- Each gets the table the last one left; nobody else writes it meanwhile." What a call answers and leaves is what its contract says.
+-- The run: "any sequence of the eight .. with any arguments, naming the shape of a .. table .. that `new` has just made. Each gets the table
+-- the last one left; nobody else writes it meanwhile." What a call answers and leaves is what its contract says. Demand 3 is about full size.
 -- Assumes nothing.
 use Prim.Native.Nat.{ℕ}
 use mathlib.Core.Bool.{true}
@@ -11,11 +11,7 @@ use Rattle.pe_reassembler.specs.Feed.{Memory, memory, Fed, feedCall, messageCal
 use Rattle.pe_reassembler.specs.Calls.{newCall, cancelCall, dropCall, statsCall, reservedCall}
 use Rattle.pe_reassembler.specs.Poll.{pollCall}
 use Rattle.pe_reassembler.specs.Open.{Listed, OpenList}
-use Rattle.pe_run.specs.Calls.{Call, feed, feed-message, cancel, drop-peer, poll, memory-stats, reserved-bytes, open-list, Answer, fed, closed, counted, timed-out, totals, listed}
-
--- "Full size is H 4,096, B 65,536, R 2,048"
-abbrev pub fullSize : ℕ → Shape
-fullSize n = record { «max_peers» = n; «header_bytes» = 4096; «tx_bytes» = 65536; «fragment_records» = 2048 }
+use Rattle.pe_run.specs.Calls.{Call, feed, feed-message, cancel, drop-peer, poll, memory-stats, reserved-bytes, open-list, Answer, fed, was-open, counted, timed-out, totals, listed}
 
 -- The table's lent memory, without the outputs of a call.
 pub record Table : Type 0 where
@@ -28,8 +24,8 @@ abbrev pub table : List ℕ → List ℕ → List ℕ → List ℕ → Table
 table numbers index headers arenas = record { numbers = numbers; index = index; headers = headers; arenas = arenas }
 
 -- Shape in range and memory long enough for it, whatever it holds.
-abbrev pub Roomy : Shape → Table → Type 0
-Roomy shape t = hasRooms shape (t .numbers) (t .index) (t .headers) (t .arenas) ≡ true
+abbrev pub LongFor : Shape → Table → Type 0
+LongFor shape t = hasRooms shape (t .numbers) (t .index) (t .headers) (t .arenas) ≡ true
 
 -- What `new` leaves of lent memory; the rooms are lent to be read only.
 abbrev pub made : Shape → Table → Table
@@ -62,25 +58,25 @@ tableFrom shape t [] = t
 tableFrom shape t (c ∷ calls) = tableFrom shape (step shape t c) calls
 
 -- Is it an answer that the call's contract allows?
-abbrev pub fedAnswer : Fed → Answer
-fedAnswer r = fed (r .answer) (r .memory .out-header) (r .memory .out-body)
+abbrev pub feedTold : Fed → Answer
+feedTold r = fed (r .answer) (r .memory .out-header) (r .memory .out-body)
 
-pub record Lists (shape : Shape) (t : Table) (out-peers out-ids out-held : List ℕ) (a : Answer) : Type 0 where
-  pub after : Listed
-  pub contract : OpenList shape (t .numbers) out-peers out-ids out-held after
-  pub told : a ≡ listed (after .answer) (after .out-peers) (after .out-ids) (after .out-held)
+pub record ListTold (shape : Shape) (t : Table) (out-peers out-ids out-held : List ℕ) (a : Answer) : Type 0 where
+  pub left : Listed
+  pub contract : OpenList shape (t .numbers) out-peers out-ids out-held left
+  pub told : a ≡ listed (left .answer) (left .out-peers) (left .out-ids) (left .out-held)
 
 abbrev pub Answers : Shape → Table → Call → Answer → Type 0
-Answers shape t (feed peer chunk now-ms out-header out-body) a = a ≡ fedAnswer (feedCall shape (lent t out-header out-body) peer chunk now-ms)
-Answers shape t (feed-message message now-ms out-header out-body) a = a ≡ fedAnswer (messageCall shape (lent t out-header out-body) message now-ms)
-Answers shape t (cancel peer request-id) a = a ≡ closed (cancelCall shape (t .numbers) peer request-id .answer)
+Answers shape t (feed peer chunk now-ms out-header out-body) a = a ≡ feedTold (feedCall shape (lent t out-header out-body) peer chunk now-ms)
+Answers shape t (feed-message message now-ms out-header out-body) a = a ≡ feedTold (messageCall shape (lent t out-header out-body) message now-ms)
+Answers shape t (cancel peer request-id) a = a ≡ was-open (cancelCall shape (t .numbers) peer request-id .answer)
 Answers shape t (drop-peer peer) a = a ≡ counted (dropCall shape (t .numbers) peer .answer)
 Answers shape t (poll now-ms out-peers out-ids) a =
     let r = pollCall shape (t .numbers) now-ms out-peers out-ids in
     a ≡ timed-out (r .answer) (r .out-peers) (r .out-ids)
 Answers shape t memory-stats a = a ≡ totals (statsCall shape (t .numbers))
 Answers shape t reserved-bytes a = a ≡ counted (reservedCall shape)
-Answers shape t (open-list out-peers out-ids out-held) a = Lists shape t out-peers out-ids out-held a
+Answers shape t (open-list out-peers out-ids out-held) a = ListTold shape t out-peers out-ids out-held a
 
 -- Answers that the contracts allow, from one end of the run to the other.
 abbrev pub Run : Shape → Table → List Call → List Answer → Type 0
