@@ -1,6 +1,4 @@
--- A run that meets every hypothesis of a delivery: the second chunk first and bare, the first one last and in a message, and in between
--- another peer under the same request id, a chunk that is held already, a torn one, a poll just in time, a late one that is refused for its short
--- output, a clock that goes back, a cancel of another request id and a drop of another peer.
+-- The instance meets every hypothesis of a delivery.
 -- Assumes nothing.
 use Prim.Native.Nat.{ℕ, zero, suc, _<_, _≤_}
 use mathlib.Core.Bool.{true, or-true}
@@ -26,49 +24,31 @@ use Rattle.pe_chunker.proofs.Theorems.{fields-in-range, budget-is-room}
 use Rattle.pe_reassembler.specs.Open.{Perm, swap}
 use Rattle.pe_reassembler.specs.Table.{isMuid}
 use Rattle.pe_run.specs.Model.{Entry, Model, findsRecord, hasFour, judged, arrives}
-use Rattle.pe_run.specs.Calls.{Call, feed, feed-message, cancel, drop-peer, poll, memory-stats, Arrival, arrival, actOf, hasOutputs, fedArrival, messageArrival, modelAfter}
+use Rattle.pe_run.specs.Calls.{Arrival, arrival, actOf, hasOutputs, fedArrival, messageArrival, modelAfter}
+use Rattle.pe_run.specs.Instance.{lentHeader, lentBody, header, body, one, two, message, torn, other, before, first, rest}
 use Rattle.pe_run.specs.Demand.{fullSize, CutInto, ours, Room, Spared, Delivery}
 
--- ---- outputs of full size
-pub out-header : List ℕ
-out-header = replicate 4096 0
-
-pub out-body : List ℕ
-out-body = replicate 65536 0
-
-header-long : length out-header ≡ 4096
-unfolding out-header
+header-long : length lentHeader ≡ 4096
+unfolding lentHeader
 header-long = length-replicate {A = ℕ} 4096 0
 
-body-long : length out-body ≡ 65536
-unfolding out-body
+body-long : length lentBody ≡ 65536
+unfolding lentBody
 body-long = length-replicate {A = ℕ} 65536 0
 
-long-enough : hasOutputs (fullSize 2) out-header out-body ≡ true
+long-enough : hasOutputs (fullSize 2) lentHeader lentBody ≡ true
 long-enough = rw (header-long, body-long) refl
 
 -- ---- what arrives
 abbrev pub bearing : ℕ → Chunk → ℕ → Arrival
-bearing peer c now-ms = arrival peer (chunkBytes c) c now-ms out-header out-body
+bearing peer c now-ms = arrival peer (chunkBytes c) c now-ms lentHeader lentBody
 
 fed-arrives : (peer : ℕ) (c : Chunk) (now-ms : ℕ) → isMuid peer ≡ true → InRange c
-    → fedArrival (fullSize 2) peer (chunkBytes c) now-ms out-header out-body ≡ granted (bearing peer c now-ms)
+    → fedArrival (fullSize 2) peer (chunkBytes c) now-ms lentHeader lentBody ≡ granted (bearing peer c now-ms)
 unfolding fedArrival
 fed-arrives peer c now-ms m r = rw (long-enough, m, bytes-read c r, bytes-chunk c) refl
 
 -- ---- the list
-abbrev pub header : List ℕ
-header = replicate 104 1
-
-abbrev pub body : List ℕ
-body = 10 ∷ 20 ∷ 30 ∷ []
-
-abbrev pub one : Chunk
-one = record { request-id = 5; header = header; num-chunks = 2; chunk-num = 1; property = [] }
-
-abbrev pub two : Chunk
-two = record { request-id = 5; header = []; num-chunks = 2; chunk-num = 2; property = body }
-
 counted : cutCount 5 header body 128 ≡ granted 2
 unfolding cutCount askCut isSevenBit bodyPieces cutUp firstCapacity laterCapacity budget clamped
 counted = refl
@@ -95,20 +75,14 @@ one-in-range = subst InRange first-chunk (fields-in-range 5 header body 128 2 1 
 two-in-range : InRange two
 two-in-range = subst InRange second-chunk (fields-in-range 5 header body 128 2 2 counted (omega arith) (omega arith))
 
--- ---- others: a chunk under a request id, and the next
-abbrev pub other : ℕ → ℕ → Chunk
-other request-id number = record { request-id = request-id; header = []; num-chunks = 3; chunk-num = number; property = 9 ∷ [] }
-
+-- ---- others
 other-in-range : (request-id number : ℕ) → request-id ≤ 127 → number ≤ 16383 → InRange (other request-id number)
 unfolding isSevenBit
 other-in-range request-id number i n =
     record { id = i; header-len = omega arith; property-len = omega arith; count = omega arith; number = n; header-bytes = refl; first = or-true (eqb number 1) }
 
 -- ---- the first chunk in a message
-pub message : List ℕ
-message = headerBytes (headerFor 0x34 9 7) ++ chunkBytes one
-
-pub message-arrives : messageArrival (fullSize 2) message 9000 out-header out-body ≡ granted (bearing 9 one 9000)
+pub message-arrives : messageArrival (fullSize 2) message 9000 lentHeader lentBody ≡ granted (bearing 9 one 9000)
 unfolding messageArrival message writeWhole within28 carriesChunk chunkLen
 message-arrives =
     let w : writeWhole 0x34 9 7 one 4096 ≡ granted message = ask-yes one _ one-in-range in
@@ -117,54 +91,22 @@ message-arrives =
     rw (long-enough, r .0, r .1, r .2, b) refl
 
 -- ---- the run
-abbrev pub places : List ℕ
-places = replicate 8 0
-
--- the second chunk without its last byte
-abbrev pub torn : List ℕ
-torn = 5 ∷ 0 ∷ 0 ∷ 2 ∷ 0 ∷ 2 ∷ 0 ∷ 3 ∷ 0 ∷ 10 ∷ 20 ∷ []
-
-abbrev pub before : List Call
-before =
-    feed 8 (chunkBytes (other 5 1)) 0 out-header out-body
-    ∷ feed 9 (chunkBytes (other 6 1)) 10 out-header out-body
-    ∷ cancel 9 5
-    ∷ drop-peer 7
-    ∷ []
-
-abbrev pub first : Call
-first = feed 9 (chunkBytes two) 100 out-header out-body
-
-abbrev pub rest : List Call
-rest =
-    feed 8 (chunkBytes (other 5 2)) 150 out-header out-body
-    ∷ feed 9 (chunkBytes (other 6 1)) 200 out-header out-body
-    ∷ memory-stats
-    ∷ poll 3099 places places
-    ∷ poll 9000 [] places
-    ∷ feed 9 torn 300 out-header out-body
-    ∷ poll 50 places places
-    ∷ cancel 9 6
-    ∷ drop-peer 8
-    ∷ feed-message message 9000 out-header out-body
-    ∷ []
-
-arrives-before-8 : fedArrival (fullSize 2) 8 (chunkBytes (other 5 1)) 0 out-header out-body ≡ granted (bearing 8 (other 5 1) 0)
+arrives-before-8 : fedArrival (fullSize 2) 8 (chunkBytes (other 5 1)) 0 lentHeader lentBody ≡ granted (bearing 8 (other 5 1) 0)
 arrives-before-8 = fed-arrives 8 (other 5 1) 0 refl (other-in-range 5 1 (omega arith) (omega arith))
 
-arrives-before-9 : fedArrival (fullSize 2) 9 (chunkBytes (other 6 1)) 10 out-header out-body ≡ granted (bearing 9 (other 6 1) 10)
+arrives-before-9 : fedArrival (fullSize 2) 9 (chunkBytes (other 6 1)) 10 lentHeader lentBody ≡ granted (bearing 9 (other 6 1) 10)
 arrives-before-9 = fed-arrives 9 (other 6 1) 10 refl (other-in-range 6 1 (omega arith) (omega arith))
 
-pub arrives-first : fedArrival (fullSize 2) 9 (chunkBytes two) 100 out-header out-body ≡ granted (bearing 9 two 100)
+pub arrives-first : fedArrival (fullSize 2) 9 (chunkBytes two) 100 lentHeader lentBody ≡ granted (bearing 9 two 100)
 arrives-first = fed-arrives 9 two 100 refl two-in-range
 
-pub arrives-8 : fedArrival (fullSize 2) 8 (chunkBytes (other 5 2)) 150 out-header out-body ≡ granted (bearing 8 (other 5 2) 150)
+pub arrives-8 : fedArrival (fullSize 2) 8 (chunkBytes (other 5 2)) 150 lentHeader lentBody ≡ granted (bearing 8 (other 5 2) 150)
 arrives-8 = fed-arrives 8 (other 5 2) 150 refl (other-in-range 5 2 (omega arith) (omega arith))
 
-pub arrives-9 : fedArrival (fullSize 2) 9 (chunkBytes (other 6 1)) 200 out-header out-body ≡ granted (bearing 9 (other 6 1) 200)
+pub arrives-9 : fedArrival (fullSize 2) 9 (chunkBytes (other 6 1)) 200 lentHeader lentBody ≡ granted (bearing 9 (other 6 1) 200)
 arrives-9 = fed-arrives 9 (other 6 1) 200 refl (other-in-range 6 1 (omega arith) (omega arith))
 
-pub torn-refused : fedArrival (fullSize 2) 9 torn 300 out-header out-body ≡ refused 2 0
+pub torn-refused : fedArrival (fullSize 2) 9 torn 300 lentHeader lentBody ≡ refused 2 0
 unfolding fedArrival readFields readU14 isSevenBit numberOf
 torn-refused = rw long-enough refl
 
