@@ -1,14 +1,13 @@
 -- The questions that are asked ahead of **Table**'s: of memory that is long enough, those of the calls and of the run are the same.
 -- Assumes nothing.
-use Prim.Native.Nat.{ℕ, _+_, _*_, _≤_}
+use Prim.Native.Nat.{ℕ, _*_, _≤_}
 use mathlib.Core.Bool.{Bool, true, false, cond, _&&_}
 use mathlib.Core.List.{List, [], _++_, map}
 use mathlib.Core.Path.{_≡_, refl, subst}
 use native.Mathlib.Omega.{arith}
 use borrow.Author.Tests.{le-leb, leb-true}
-use lib.Dec.{leb}
 use lib.ListN.{length, drop}
-use Rattle.seven_bit.specs.Reply.{Reply, granted, refused, andThen, _else_then_}
+use Rattle.seven_bit.specs.Reply.{Reply, granted, refused, andThen}
 use Rattle.seven_bit.proofs.ReplyLaws.{asked, first-granted, same-grant, and-told}
 use Rattle.midici_core.specs.Message.{Message, readMessage}
 use Rattle.pe_frame.specs.Chunk.{Fields, readFields, chunkOf}

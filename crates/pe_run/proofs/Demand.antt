@@ -8,10 +8,10 @@ use lib.Dec.{eqb}
 use Rattle.pe_reassembler.specs.declared.shape.Shape.{Shape}
 use Rattle.pe_reassembler.specs.Open.{Shown, openSlots}
 use Rattle.pe_run.specs.Lists.{tally}
-use Rattle.pe_run.specs.Model.{Entry, Model, isOf, acted}
+use Rattle.pe_run.specs.Model.{Model, isOf, acted}
 use Rattle.pe_run.specs.Calls.{Call, Answer, actOf, modelFrom, modelAfter, shownOf, AllRight}
 use Rattle.pe_run.specs.Run.{Table, LongFor, made, step, tableFrom, Run}
-use Rattle.pe_run.specs.Demand.{fullSize, LongEnough, Demand3, Demand}
+use Rattle.pe_run.specs.Demand.{fullSize, Demand}
 use Rattle.pe_run.proofs.Value.{valueOf, opens}
 use Rattle.pe_run.proofs.ModelLaws.{Four, four-step}
 use Rattle.pe_run.proofs.RowLaws.{open-rows}

@@ -2,22 +2,22 @@
 -- Assumes nothing.
 use Prim.Native.Nat.{ℕ, zero, suc, _<_, _≤_}
 use mathlib.Core.Bool.{true, or-true}
-use mathlib.Core.List.{List, [], _∷_, _++_, map}
-use mathlib.Core.Option.{Option, none, some}
+use mathlib.Core.List.{List, [], _∷_, map}
+use mathlib.Core.Option.{Option, some}
 use mathlib.Core.Path.{_≡_, refl, sym, ap, subst, _∙_}
 use native.Mathlib.Omega.{arith}
 use lib.Dec.{eqb}
-use lib.ListN.{length, getD, drop, replicate, length-replicate}
+use lib.ListN.{length, getD, drop, length-replicate}
 use Rattle.seven_bit.specs.Reply.{granted, refused}
 use Rattle.seven_bit.specs.SevenBit.{isSevenBit, numberOf}
-use Rattle.midici_core.specs.Header.{headerBytes, within28}
+use Rattle.midici_core.specs.Header.{within28}
 use Rattle.midici_core.specs.Kinds.{carriesChunk}
 use Rattle.pe_wire.specs.Wire.{readU14}
 use Rattle.pe_frame.specs.Chunk.{Chunk, readFields}
-use Rattle.pe_frame.specs.Write.{chunkBytes, chunkLen, headerFor, writeWhole}
+use Rattle.pe_frame.specs.Write.{chunkBytes, chunkLen, writeWhole}
 use Rattle.pe_frame.proofs.ChunkLaws.{InRange, ask-yes}
 use Rattle.pe_frame.proofs.RoundTrip.{bytes-read, bytes-chunk, whole-then-read, read-bytes-are, fields}
-use Rattle.pe_slot.specs.Slot.{Piece, held, allHeld, bodyLen, isWhole, eventOf, headerFits, sameHeader, eqList, headerAgrees, isNone, newHeader, countAgrees, newCount, afterChunk, passed, judge}
+use Rattle.pe_slot.specs.Slot.{Piece, held, allHeld, bodyLen, isWhole, eventOf, headerFits, sameHeader, headerAgrees, isNone, newHeader, countAgrees, newCount, afterChunk, passed, judge}
 use Rattle.pe_chunker.specs.Cut.{clamped, budget, laterCapacity, firstCapacity, cutUp, bodyPieces, chunkAt, askCut, cutCount, cutChunk}
 use Rattle.pe_chunker.proofs.CutLaws.{budget-between}
 use Rattle.pe_chunker.proofs.Theorems.{fields-in-range, budget-is-room}

@@ -1,19 +1,16 @@
 -- The answers of the instance's run, from the first chunk on.
 -- Assumes nothing.
 use Prim.Native.Nat.{ℕ, _≤_}
-use mathlib.Core.Bool.{true}
 use mathlib.Core.List.{List, [], _∷_, _++_, map}
 use mathlib.Core.Option.{none, some}
 use mathlib.Core.Path.{_≡_, refl, ap, ap₂, subst, _∙_}
 use native.Mathlib.Omega.{arith}
-use lib.Dec.{eqb}
 use lib.ListN.{length, drop, replicate, length-replicate}
 use Rattle.seven_bit.specs.Parts.{joined}
 use Rattle.seven_bit.specs.Reply.{Reply, granted, refused}
 use Rattle.pe_slot.specs.Slot.{held, allHeld, bodyLen, isWhole, Event, waiting, whole, eventOf, headerFits, sameHeader, eqList, headerAgrees, isNone, newHeader, countAgrees, newCount, afterChunk, passed, judge, insert, inOrder, bodyOf}
-use Rattle.pe_slot.specs.Feed.{still, lengths, toldAnswer, outHeader, outBody}
+use Rattle.pe_slot.specs.Feed.{toldAnswer, outHeader, outBody}
 use Rattle.pe_reassembler.specs.Calls.{reservedOf}
-use Rattle.pe_reassembler.specs.Open.{Perm}
 use Rattle.pe_run.specs.Lists.{keep}
 use Rattle.pe_run.specs.Model.{Entry, Model, isLate, findsRecord, hasFour, judged, Arrived, arrives, acted}
 use Rattle.pe_run.specs.Calls.{Call, Answer, fed, timed-out, Arrival, grantedOf, arrivalOf, actOf, Key, keyOf, TimedOut, Right, AllRight}

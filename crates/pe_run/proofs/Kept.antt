@@ -1,27 +1,25 @@
 -- What holds between a table's memory and the model all through a run; every call keeps it, and answers as the model does.
 -- Assumes nothing.
-use Prim.Native.Nat.{ℕ, _≤_}
+use Prim.Native.Nat.{ℕ}
 use mathlib.Core.Bool.{Bool, true, false, cond, not, _&&_}
-use mathlib.Core.List.{List, [], _∷_}
+use mathlib.Core.List.{List, []}
 use mathlib.Core.Logic.{_⊎_, inl, inr}
 use mathlib.Core.Path.{_≡_, refl, sym, ap, _∙_, subst}
 use native.Mathlib.Omega.{arith}
-use lib.ListN.{length}
 use Rattle.seven_bit.specs.Reply.{Reply, granted, refused}
 use Rattle.seven_bit.proofs.ReplyLaws.{both}
 use Rattle.pe_slot.specs.Slot.{Event}
-use Rattle.pe_slot.specs.Feed.{Told, toldAnswer, outHeader, outBody}
+use Rattle.pe_slot.specs.Feed.{toldAnswer, outHeader, outBody}
 use Rattle.pe_reassembler.specs.declared.shape.Shape.{Shape}
 use Rattle.pe_reassembler.specs.Calls.{cancelCall, dropCall}
-use Rattle.pe_reassembler.specs.Feed.{Fed, feedCall, messageCall}
-use Rattle.pe_reassembler.specs.Poll.{pollCall}
+use Rattle.pe_reassembler.specs.Feed.{Fed}
 use Rattle.pe_reassembler.specs.Table.{isMuid}
 use Rattle.pe_reassembler.proofs.SoundLaws.{SlotsSound, sound-new, sound-feed, sound-message, sound-cancel, sound-drop, sound-poll}
 use Rattle.pe_run.specs.Model as Acts
 use Rattle.pe_run.specs.Model.{Model, find, isNone, openOf, arrives, acted}
-use Rattle.pe_run.specs.Calls.{Call, feed, feed-message, cancel, drop-peer, poll, memory-stats, reserved-bytes, open-list, Answer, fed, was-open, counted, Arrival, fedArrival, messageArrival, grantedOf, arrivalAct, hasPlaces, actOf, arrivalAnswer, Right, AllRight}
-use Rattle.pe_run.specs.Run.{Table, LongFor, made, lent, kept, renumbered, step, feedTold, Answers, Run}
-use Rattle.pe_run.proofs.Value.{Value, valueOf, cancels, drops}
+use Rattle.pe_run.specs.Calls.{Call, feed, feed-message, cancel, drop-peer, poll, memory-stats, reserved-bytes, open-list, Answer, fed, was-open, counted, Arrival, fedArrival, messageArrival, grantedOf, arrivalAct, hasPlaces, actOf, arrivalAnswer, Right}
+use Rattle.pe_run.specs.Run.{Table, LongFor, made, lent, kept, step, feedTold, Answers}
+use Rattle.pe_run.proofs.Value.{Value, valueOf}
 use Rattle.pe_run.proofs.Refine.{Rel, fresh-rel}
 use Rattle.pe_run.proofs.Takes.{take-rel}
 use Rattle.pe_run.proofs.Closes.{cancel-rel, drop-rel, poll-rel, cancels-are, drops-are}

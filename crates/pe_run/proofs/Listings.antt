@@ -1,6 +1,6 @@
 -- What poll, memory_stats, reserved_bytes and the open list answer is the model's answer, in whatever order the model has what is open.
 -- Assumes nothing.
-use Prim.Native.Nat.{ℕ, _+_, _*_, _≤_}
+use Prim.Native.Nat.{ℕ, _*_}
 use mathlib.Core.Bool.{Bool, true, false, cond, _&&_}
 use mathlib.Core.List.{List, [], _++_, map, map-map}
 use mathlib.Core.Path.{_≡_, sym, ap, _∙_, subst}

@@ -23,11 +23,10 @@ use Rattle.pe_run.proofs.ListLaws.{NoneOf, all-first, all-second, tally
 use Rattle.pe_run.proofs.PermLaws.{perm-sym}
 use Rattle.pe_run.proofs.ModelLaws.{without-none}
 use Rattle.pe_run.proofs.Arrive.{arrive-open, arrive-new}
-use Rattle.pe_run.proofs.Value.{Cell, Rec, Value, noCell, noRec, every, isFree, hasId, isOwn, isUnbound, isIdle, choose, chooseCell, cellOpen, cellsOpen, recsOpen, opens, Taken, cellWith, takeCell, takeRec, takeAt, takes, cancelled, dropped, polled}
+use Rattle.pe_run.proofs.Value.{Cell, Rec, Value, noCell, noRec, every, isFree, hasId, isOwn, isUnbound, isIdle, choose, chooseCell, cellOpen, cellsOpen, recsOpen, opens, Taken, cellWith, takeCell, takeRec, takeAt, takes}
 use Rattle.pe_run.proofs.Places.{Split, view, place-absent, split-place, split-getD, split-set, split-hit, split-short}
 use Rattle.pe_run.proofs.Records.{away-tally, away-find, free-none, free-open, isUsed, used-some, Apart, Tidy, apart-away, tidy-second, isBusy}
 use Rattle.pe_run.proofs.Refine.{FourCells, Rel, tally-is, find-is, peers-are, own-muid, own-after, own-find, own-tally, rest, putCell, here-open, put-rel, own-open}
-use Rattle.pe_run.proofs.Closes.{cancel-rel, drop-rel, poll-rel}
 
 -- ---- does the peer find a record?
 finds-open : (n peer : ℕ) (b : Model) → 1 ≤ openOf peer b → findsRecord n peer b ≡ true

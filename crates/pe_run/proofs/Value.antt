@@ -5,7 +5,7 @@ use mathlib.Core.Bool.{Bool, true, false, cond, not, _&&_, _||_}
 use mathlib.Core.List.{List, [], _∷_, _++_, map}
 use mathlib.Core.Option.{Option, none, some}
 use lib.Dec.{leb, eqb}
-use lib.ListN.{length, getD, set}
+use lib.ListN.{getD, set}
 use Rattle.seven_bit.specs.Reply.{Reply, refused}
 use Rattle.pe_frame.specs.Chunk.{Chunk}
 use Rattle.pe_slot.specs.Slot.{Event}
@@ -14,7 +14,7 @@ use Rattle.pe_reassembler.specs.declared.shape.Shape.{Shape}
 use Rattle.pe_reassembler.specs.Table.{peerAt, isBound, orElse}
 use Rattle.pe_reassembler.specs.Feed.{wordsPart, roomPart, nextTick}
 use Rattle.pe_run.specs.Lists.{tally}
-use Rattle.pe_run.specs.Model.{Open, Entry, Model, isNone, entryOf, touchedAt, Judged, judged}
+use Rattle.pe_run.specs.Model.{Open, Model, isNone, entryOf, touchedAt, Judged, judged}
 use Rattle.pe_run.specs.Run.{Table}
 
 pub record Cell : Type 0 where

@@ -1,16 +1,13 @@
 -- Memory's questions are the value's: what a call asks of the numbers is what it asks of the records and cells.
 -- Assumes nothing.
-use Prim.Native.Nat.{ℕ, zero, suc, _+_, _*_, _≤_}
+use Prim.Native.Nat.{ℕ, zero, suc, _+_}
 use mathlib.Core.Bool.{Bool, true, false, cond, not, _&&_}
-use mathlib.Core.Logic.{_⊎_, inl, inr}
 use mathlib.Core.List.{List, _∷_}
 use mathlib.Core.Option.{none, some}
 use mathlib.Core.Path.{_≡_, refl, sym, ap, ap₂, _∙_}
 use native.Mathlib.Omega.{arith}
-use borrow.Author.Tests.{le-leb, eq-eqb, eqb-true, eqb-false, ne-eqb}
 use lib.Dec.{eqb}
-use lib.ListN.{length, getD}
-use Rattle.seven_bit.proofs.ReplyLaws.{both}
+use lib.ListN.{getD}
 use Rattle.pe_reassembler.specs.Table.{slotAt, isBound, boundTo, isActive, isIdle as idleAt, hasId as idAt, orElse, recordOf, recordFor, slotOpen, slotFor}
 use Rattle.pe_reassembler.proofs.PlaceLaws.{get-part}
 use Rattle.pe_reassembler.proofs.EffectsClose.{active-of}

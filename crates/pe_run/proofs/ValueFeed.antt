@@ -5,12 +5,9 @@ use mathlib.Core.Bool.{Bool, true, cond}
 use mathlib.Core.List.{List}
 use mathlib.Core.Option.{Option, none, some}
 use mathlib.Core.Path.{_≡_, refl, sym, ap, ap₂, _∙_, subst}
-use native.Mathlib.Omega.{arith}
-use lib.ListN.{length, getD, set, drop, length-take}
-use Rattle.seven_bit.specs.Reply.{granted, refused}
-use Rattle.pe_frame.specs.Chunk.{Chunk, Fields, readFields, chunkOf}
-use Rattle.pe_frame.proofs.RoundTrip.{read-told}
-use Rattle.pe_wire.proofs.RoundTrip.{read-small}
+use lib.ListN.{length, getD, set}
+use Rattle.seven_bit.specs.Reply.{refused}
+use Rattle.pe_frame.specs.Chunk.{Chunk}
 use Rattle.pe_slot.specs.Feed.{After, feedSlot, toldAnswer, outHeader, outBody}
 use Rattle.pe_reassembler.specs.Table.{hasNumbers, hasRooms, recordFor, slotFor}
 use Rattle.pe_reassembler.specs.Feed.{Memory, Fed, fed, nextTick, wordsPart, roomPart, lifted, reach, inSlot, inRecord, atTable}

@@ -10,13 +10,13 @@ use lib.ListN.{length, drop}
 use Rattle.seven_bit.specs.Reply.{Reply, granted, refused, _else_then_, andThen}
 use Rattle.midici_core.specs.Message.{readMessage}
 use Rattle.pe_frame.specs.Chunk.{Chunk, readFields, chunkOf}
-use Rattle.pe_slot.specs.Slot.{Slot, Event, bodyLen}
+use Rattle.pe_slot.specs.Slot.{Event, bodyLen}
 use Rattle.pe_slot.specs.Feed.{Told, toldAnswer, outHeader, outBody}
 use Rattle.pe_reassembler.specs.declared.shape.Shape.{Shape}
 use Rattle.pe_reassembler.specs.Table.{isMuid}
 use Rattle.pe_reassembler.specs.Calls.{Totals, reservedOf}
 use Rattle.pe_reassembler.specs.Open.{Perm, Shown}
-use Rattle.pe_run.specs.Lists.{keep, tally}
+use Rattle.pe_run.specs.Lists.{keep}
 use Rattle.pe_run.specs.Model.{Entry, Model, isLate, find, isNone, openOf, arrives, Act, arrive, cancel as cancelled, drop as dropped, poll as polled, nothing, acted}
 
 -- "any sequence of the eight .. with any arguments": the arguments are those of the calls, the lent outputs among them.
