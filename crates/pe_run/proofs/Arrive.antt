@@ -51,7 +51,10 @@ arrive-open shape peer b o c now-ms q = rw (ne-eqb (openOf peer b) 0 (omega (ari
 pub arrive-new : (shape : Shape) (peer : ℕ) (b : Model) (c : Chunk) (now-ms : ℕ) → Room (shape .«max_peers») peer (c .request-id) b
     → arrives shape b peer c now-ms ≡ arrived peer (c .request-id) b (judged shape (touchedAt none now-ms) c)
 unfolding arrives hasFour
-arrive-new shape peer b c now-ms r = rw (r .record-found, r .not-open, lt-leb 4 (openOf peer b) (r .fewer)) refl
+arrive-new shape peer b c now-ms r =
+    let found : findsRecord (shape .«max_peers») peer b ≡ true = r .record-found in
+    let free : find peer (c .request-id) b ≡ none = r .not-open in
+    rw (found, free, lt-leb 4 (openOf peer b) (r .fewer)) refl
 
 -- what stays open is found
 pub find-arrived : (peer request-id : ℕ) (b : Model) (o : Open) → find peer request-id (entryOf peer request-id (some o) ++ without peer request-id b) ≡ some o
@@ -102,7 +105,9 @@ module _ (p i : ℕ) (b : Model) (o : Open) (f : find p i b ≡ some o) where
   find-acted shape (drop q) acts h s = (find-keep (λ (e : Entry). not (isOf q e)) p i b o (λ e k w. away e k) f, s .1)
     where
       away : (e : Entry) → isAt p i e ≡ true → not (eqb q (e .peer)) ≡ true
-      away e k = rw (← eqb-true p (e .peer) (and-told (eqb p (e .peer)) (eqb i (e .request-id)) k .0), eqb-sym q p, s .0)
+      away e k =
+          let apart : eqb p q ≡ false = s .0 in
+          rw (← eqb-true p (e .peer) (and-told (eqb p (e .peer)) (eqb i (e .request-id)) k .0), eqb-sym q p, apart)
   find-acted shape (poll now-ms) acts h s = (find-keep (λ (e : Entry). not (isLate now-ms e)) p i b o (λ e k w. soon e w) f, s .1)
     where
       soon : (e : Entry) → e .state ≡ o → not (leb 3000 (now-ms - e .state .time)) ≡ true

@@ -13,7 +13,7 @@ use lib.ListN.{length, length-append, length-map}
 use Rattle.seven_bit.specs.Reply.{granted}
 use Rattle.seven_bit.proofs.ReplyLaws.{both}
 use Rattle.pe_frame.specs.Chunk.{Chunk}
-use Rattle.pe_slot.specs.Slot.{Slot, held, allHeld, bodyLen, isWhole, Event, waiting, whole, eventOf, headerFits, sameHeader, headerAgrees, isNone, newHeader, countAgrees, newCount, afterChunk, passed, judge}
+use Rattle.pe_slot.specs.Slot.{Slot, Verdict, slotAfter, held, allHeld, bodyLen, isWhole, Event, waiting, whole, eventOf, headerFits, sameHeader, headerAgrees, isNone, newHeader, countAgrees, newCount, afterChunk, passed, judge}
 use Rattle.pe_slot.proofs.OrderHeldLaws.{all-yes, all-no}
 use Rattle.pe_run.specs.Lists.{memb}
 use Rattle.pe_run.specs.Model.{Open, Judged, judged}
@@ -42,9 +42,26 @@ judgedTo left event = record { left = left; answer = granted event }
 abbrev pub settled : ℕ → Slot → Judged
 settled time s = judgedTo (cond (isWhole (s .header) (s .count) (s .pieces)) none (some (openAt time s))) (eventOf (s .header) (s .count) (s .pieces))
 
-judged-passed : (n time : ℕ) (s : Slot) (c : Chunk) → Passes s c → judged (fullSize n) (openAt time s) c ≡ settled time (afterChunk s c (newHeader s c) (newCount s c) true)
-unfolding judged judge passed
-judged-passed n time s c k = rw (k .fits, k .agrees, k .counts, k .named, k .fresh, k .few, k .roomy) refl
+-- the verdict of a chunk that leaves the slot s′
+abbrev passing : Slot → Chunk → Slot → Verdict
+passing s c s′ =
+    record {
+      answer = granted (eventOf (s′ .header) (s′ .count) (s′ .pieces));
+      stores = newHeader s c;
+      takes = newCount s c;
+      adds = true;
+      closes = isWhole (s′ .header) (s′ .count) (s′ .pieces);
+    }
+
+judge-passed : (s : Slot) (c : Chunk) → Passes s c → judge 4096 65536 2048 s c ≡ passing s c (afterChunk s c (newHeader s c) (newCount s c) true)
+unfolding judge passed
+judge-passed s c k = rw (k .fits, k .agrees, k .counts, k .named, k .fresh, k .few, k .roomy) refl
+
+judged-passed : (n time : ℕ) (s : Slot) (c : Chunk) → Passes s c
+    → judged (fullSize n) (openAt time s) c ≡ settled time (afterChunk s c (newHeader s c) (newCount s c) true)
+unfolding judged
+judged-passed n time s c k =
+    ap (λ (v : Verdict). record { left = cond (v .closes) none (some (openAt time (slotAfter s c v))); answer = v .answer }) (judge-passed s c k)
 
 -- ---- a slot that holds chunks of a list: its header is there if number 1 is
 abbrev headerWith : List ℕ → List Chunk → Option (List ℕ)
