@@ -45,12 +45,14 @@ module _ (shape : Shape) (t : Table) (ok : LongFor shape t) where
     read-ahead (refused number value) peer bytes = refl
 
     pub feed-ahead : (peer : ℕ) (chunk : List ℕ)
-        → feedCall shape (lent t out-header out-body) peer chunk now-ms ≡ reached shape t out-header out-body (fedArrival shape peer chunk now-ms out-header out-body)
+        → feedCall shape (lent t out-header out-body) peer chunk now-ms
+        ≡ reached shape t out-header out-body (fedArrival shape peer chunk now-ms out-header out-body)
     unfolding feedCall fedArrival
     feed-ahead peer chunk = rw (all-asked out-header out-body) (go (hasOutputs shape out-header out-body) (isMuid peer))
       where
         go : (outputs muid : Bool)
-            → cond outputs (cond muid (chunkRead (readFields chunk) shape (lent t out-header out-body) peer chunk now-ms) (fed (refused 28 0) (lent t out-header out-body)))
+            → cond outputs (cond muid (chunkRead (readFields chunk) shape (lent t out-header out-body) peer chunk now-ms)
+            (fed (refused 28 0) (lent t out-header out-body)))
             (fed (refused 30 0) (lent t out-header out-body))
             ≡ reached shape t out-header out-body (cond outputs (cond muid (arriving peer chunk now-ms out-header out-body) (refused 28 0)) (refused 30 0))
         go true true = read-ahead (readFields chunk) peer chunk
@@ -58,13 +60,15 @@ module _ (shape : Shape) (t : Table) (ok : LongFor shape t) where
         go false muid = refl
 
     pub message-ahead : (message : List ℕ)
-        → messageCall shape (lent t out-header out-body) message now-ms ≡ reached shape t out-header out-body (messageArrival shape message now-ms out-header out-body)
+        → messageCall shape (lent t out-header out-body) message now-ms
+        ≡ reached shape t out-header out-body (messageArrival shape message now-ms out-header out-body)
     unfolding messageCall messageArrival
     message-ahead message = rw (all-asked out-header out-body) (go (hasOutputs shape out-header out-body) (readMessage message))
       where
         go : (outputs : Bool) (r : Reply Message)
             → cond outputs (messageRead r shape (lent t out-header out-body) message now-ms) (fed (refused 30 0) (lent t out-header out-body))
-            ≡ reached shape t out-header out-body (cond outputs (andThen r (λ (m : Message). arriving (m .header .source) (drop 13 message) now-ms out-header out-body)) (refused 30 0))
+            ≡ reached shape t out-header out-body
+            (cond outputs (andThen r (λ (m : Message). arriving (m .header .source) (drop 13 message) now-ms out-header out-body)) (refused 30 0))
         go true (granted m) = read-ahead (readFields (drop 13 message)) (m .header .source) (drop 13 message)
         go true (refused number value) = refl
         go false r = refl
@@ -100,7 +104,8 @@ pub record Small (shape : Shape) (out-header out-body : List ℕ) (a : Arrival) 
   pub property : length (a .chunk .property) ≤ 16383
 
 module _ (shape : Shape) (now-ms : ℕ) (out-header out-body : List ℕ) (a : Arrival) where
-  arriving-small : (peer : ℕ) (bytes : List ℕ) → hasOutputs shape out-header out-body ≡ true → arriving peer bytes now-ms out-header out-body ≡ granted a → Small shape out-header out-body a
+  arriving-small : (peer : ℕ) (bytes : List ℕ) → hasOutputs shape out-header out-body ≡ true → arriving peer bytes now-ms out-header out-body ≡ granted a
+      → Small shape out-header out-body a
   arriving-small peer bytes o q =
       let f = first-granted (readFields bytes) _ a q in
       let r = read-in-range bytes (f .0) (f .1) in

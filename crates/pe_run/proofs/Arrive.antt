@@ -87,7 +87,8 @@ module _ (p i : ℕ) (b : Model) (o : Open) (f : find p i b ≡ some o) where
   find-done q j none h = find-without q j h
   find-done q j (some x) h = rw h (find-without q j h)
 
-  find-arrives : (shape : Shape) (q : ℕ) (c : Chunk) (now-ms : ℕ) → (eqb p q && eqb i (c .request-id)) ≡ false → find p i (arrives shape b q c now-ms .model) ≡ some o
+  find-arrives : (shape : Shape) (q : ℕ) (c : Chunk) (now-ms : ℕ) → (eqb p q && eqb i (c .request-id)) ≡ false
+      → find p i (arrives shape b q c now-ms .model) ≡ some o
   unfolding arrives
   find-arrives shape q c now-ms h = go (not (findsRecord (shape .«max_peers») q b)) (hasFour q (c .request-id) b)
     where

@@ -143,7 +143,8 @@ module _ (shape : Shape) (peer request-id : ℕ) where
       → ours shape peer request-id (c ∷ calls) ≡ ours shape peer request-id calls
   ours-other c calls q = go (arrivalOf shape c) q
     where
-      go : (x : Option Arrival) → isUnder peer request-id x ≡ false → oursOf peer request-id x ++ ours shape peer request-id calls ≡ ours shape peer request-id calls
+      go : (x : Option Arrival) → isUnder peer request-id x ≡ false
+          → oursOf peer request-id x ++ ours shape peer request-id calls ≡ ours shape peer request-id calls
       go none q = refl
       go (some a) q = rw q refl
 

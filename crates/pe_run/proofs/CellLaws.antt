@@ -50,7 +50,8 @@ entryFor peer active request-id time slot =
     cond (not (eqb active 0)) (record { peer = peer; request-id = request-id; state = record { time = time; slot = slot } } ∷ []) []
 
 open-cell : (peer : ℕ) (words index header arena : List ℕ)
-    → cellOpen peer (cellOf words index header arena) ≡ entryFor peer (getD words 0 0) (getD words 1 0) (getD words 2 0) (contents (slotOf words) index header arena)
+    → cellOpen peer (cellOf words index header arena)
+    ≡ entryFor peer (getD words 0 0) (getD words 1 0) (getD words 2 0) (contents (slotOf words) index header arena)
 unfolding cellOf
 open-cell peer words index header arena = go (eqb (getD words 0 0) 0) (getD words 1 0) (getD words 2 0) (contents (slotOf words) index header arena)
   where
@@ -60,17 +61,20 @@ open-cell peer words index header arena = go (eqb (getD words 0 0) 0) (getD word
     go true request-id time slot = refl
     go false request-id time slot = refl
 
-pub cell-open : (shape : Shape) (t : Table) (p s : ℕ) → cellOpen (peerIn t p) (cellAt shape t p s) ≡ cond (isActive (t .numbers) p s) (entryAt shape t p s ∷ []) []
+pub cell-open : (shape : Shape) (t : Table) (p s : ℕ)
+    → cellOpen (peerIn t p) (cellAt shape t p s) ≡ cond (isActive (t .numbers) p s) (entryAt shape t p s ∷ []) []
 unfolding cellAt isActive
 cell-open shape t p s =
     let w : List ℕ = wordsPart (t .numbers) p s in
     let x : Slot = entryAt shape t p s .state .slot in
     let z : slotAt p s + 0 ≡ slotAt p s = omega arith in
     let a : getD w 0 0 ≡ getD (t .numbers) (slotAt p s) 0 = word-at (t .numbers) p s 0 (omega arith) ∙ ap (λ (i : ℕ). getD (t .numbers) i 0) z in
-    open-cell (peerIn t p) w (roomPart (shape .«fragment_records») (t .index) p s) (roomPart (shape .«header_bytes») (t .headers) p s) (roomPart (shape .«tx_bytes») (t .arenas) p s)
+    open-cell (peerIn t p) w (roomPart (shape .«fragment_records») (t .index) p s) (roomPart (shape .«header_bytes») (t .headers) p s)
+    (roomPart (shape .«tx_bytes») (t .arenas) p s)
     ∙ ap (λ (i : ℕ). entryFor (peerIn t p) i (getD w 1 0) (getD w 2 0) x) a
     ∙ ap (λ (i : ℕ). entryFor (peerIn t p) (getD (t .numbers) (slotAt p s) 0) i (getD w 2 0) x) (word-at (t .numbers) p s 1 (omega arith))
-    ∙ ap (λ (i : ℕ). entryFor (peerIn t p) (getD (t .numbers) (slotAt p s) 0) (getD (t .numbers) (slotAt p s + 1) 0) i x) (word-at (t .numbers) p s 2 (omega arith))
+    ∙ ap (λ (i : ℕ). entryFor (peerIn t p) (getD (t .numbers) (slotAt p s) 0) (getD (t .numbers) (slotAt p s + 1) 0) i x)
+    (word-at (t .numbers) p s 2 (omega arith))
 
 -- ---- what a sound slot's words say of it
 held-length : (H B R : ℕ) (words index header arena : List ℕ) → length index ≡ R → isSound H B R (slotOf words) index ≡ true
@@ -105,7 +109,8 @@ header-held H B R words index header arena l e blank =
 -- ---- of a table whose memory is long enough
 abbrev SoundAt : Shape → Table → ℕ → ℕ → Type 0
 SoundAt shape t p s =
-    SlotSound (shape .«header_bytes») (shape .«tx_bytes») (shape .«fragment_records») (wordsPart (t .numbers) p s) (roomPart (shape .«fragment_records») (t .index) p s)
+    SlotSound (shape .«header_bytes») (shape .«tx_bytes») (shape .«fragment_records») (wordsPart (t .numbers) p s)
+    (roomPart (shape .«fragment_records») (t .index) p s)
 
 module _ (shape : Shape) (t : Table) (long : LongFor shape t) (p s : ℕ) (h : p < (shape .«max_peers»)) (k : s < 4) where
   pub entry-held : SoundAt shape t p s → length (entryAt shape t p s .state .slot .pieces) ≡ getD (t .numbers) (slotAt p s + 7) 0
@@ -115,7 +120,8 @@ module _ (shape : Shape) (t : Table) (long : LongFor shape t) (p s : ℕ) (h : p
       ∙ word-at (t .numbers) p s 7 (omega arith)
 
   pub entry-bytes : SoundAt shape t p s
-      → entryBytes (entryAt shape t p s) ≡ getD (t .numbers) (slotAt p s + 6) 0 + getD (t .numbers) (slotAt p s + 8) 0 + 8 * getD (t .numbers) (slotAt p s + 7) 0
+      → entryBytes (entryAt shape t p s)
+      ≡ getD (t .numbers) (slotAt p s + 6) 0 + getD (t .numbers) (slotAt p s + 8) 0 + 8 * getD (t .numbers) (slotAt p s + 7) 0
   entry-bytes e =
       let w : List ℕ = wordsPart (t .numbers) p s in
       let i : List ℕ = roomPart (shape .«fragment_records») (t .index) p s in

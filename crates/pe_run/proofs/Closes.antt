@@ -26,7 +26,8 @@ module _ (now-ms : ℕ) where
 
   poll-cells : (muid : ℕ) (cells : List Cell) → cellsOpen muid (map (pollCell now-ms) cells) ≡ keep inTime (cellsOpen muid cells)
   poll-cells muid [] = refl
-  poll-cells muid (cell ∷ cells) = ap₂ (λ (a b : Model). a ++ b) (one (cell .state)) (poll-cells muid cells) ∙ sym (keep-append inTime (cellOpen muid cell) (cellsOpen muid cells))
+  poll-cells muid (cell ∷ cells) =
+      ap₂ (λ (a b : Model). a ++ b) (one (cell .state)) (poll-cells muid cells) ∙ sym (keep-append inTime (cellOpen muid cell) (cellsOpen muid cells))
     where
       with : Option Open → Cell
       with o = record { tick = cell .tick; request-id = cell .request-id; state = o }
@@ -42,14 +43,16 @@ module _ (now-ms : ℕ) where
   poll-recs : (recs : List Rec) → recsOpen (map (pollRec now-ms) recs) ≡ keep inTime (recsOpen recs)
   poll-recs [] = refl
   poll-recs (r ∷ recs) =
-      ap₂ (λ (a b : Model). a ++ b) (poll-cells (r .muid) (r .cells)) (poll-recs recs) ∙ sym (keep-append inTime (cellsOpen (r .muid) (r .cells)) (recsOpen recs))
+      ap₂ (λ (a b : Model). a ++ b) (poll-cells (r .muid) (r .cells)) (poll-recs recs)
+      ∙ sym (keep-append inTime (cellsOpen (r .muid) (r .cells)) (recsOpen recs))
 
   pub poll-idle : (cells : List Cell) → every isFree cells ≡ true → every isFree (map (pollCell now-ms) cells) ≡ true
   poll-idle [] h = refl
   poll-idle (cell ∷ cells) h = go (cell .state) h (poll-idle cells)
     where
       go : (o : Option Open) → (isNone o && every isFree cells) ≡ true → (every isFree cells ≡ true → every isFree (map (pollCell now-ms) cells) ≡ true)
-          → (isFree (pollCell now-ms (record { tick = cell .tick; request-id = cell .request-id; state = o })) && every isFree (map (pollCell now-ms) cells)) ≡ true
+          → (isFree (pollCell now-ms (record { tick = cell .tick; request-id = cell .request-id; state = o })) && every isFree (map (pollCell now-ms) cells))
+          ≡ true
       go none e r = r e
       go (some x) e r = absurd (false≢true e)
 
@@ -94,7 +97,8 @@ drop-rel {n} {v} {b} rel peer = go (view (isOwn peer) (v .recs))
     others : Entry → Bool
     others e = not (isOf peer e)
 
-    go : Apart peer (v .recs) ⊎ Split (isOwn peer) (v .recs) → Rel n (withRecs v (onFirst (isOwn peer) dropRec (v .recs))) (keep (λ (e : Entry). not (isOf peer e)) b)
+    go : Apart peer (v .recs) ⊎ Split (isOwn peer) (v .recs)
+        → Rel n (withRecs v (onFirst (isOwn peer) dropRec (v .recs))) (keep (λ (e : Entry). not (isOf peer e)) b)
     go (inl a) = rw (onFirst-absent (isOwn peer) dropRec (v .recs) a) (record {
       size = rel .size;
       fours = rel .fours;
@@ -105,7 +109,8 @@ drop-rel {n} {v} {b} rel peer = go (view (isOwn peer) (v .recs))
     go (inr s) = rw (split-onFirst s dropRec) (record {
       size = split-length s (dropRec (s .hit)) ∙ rel .size;
       fours = split-all s FourCells (dropRec (s .hit)) (rel .fours) (length-map (s .hit .cells) shutOpen ∙ split-hit s FourCells (rel .fours));
-      tidy = tidy-unbind (s .hit .muid) (s .before) (s .hit) (s .after) (map shutOpen (s .hit .cells)) (own-split peer (rel .tidy) s) (shut-idle (s .hit .cells));
+      tidy =
+          tidy-unbind (s .hit .muid) (s .before) (s .hit) (s .after) (map shutOpen (s .hit .cells)) (own-split peer (rel .tidy) s) (shut-idle (s .hit .cells));
       same = subst (λ (l : Model). Perm l (keep others b)) left (perm-keep others (rel .same));
       unique = unique-keep (λ (e : Entry). not (isOf peer e)) b (rel .unique);
     })
@@ -128,13 +133,16 @@ cancel-rel {n} {v} {b} rel peer id = go (view (isOwn peer) (v .recs))
     change r = withCells r (onFirst (hasId id) shut (r .cells))
 
     go : Apart peer (v .recs) ⊎ Split (isOwn peer) (v .recs) → Rel n (withRecs v (onFirst (isOwn peer) change (v .recs))) (without peer id b)
-    go (inl a) = rw (onFirst-absent (isOwn peer) change (v .recs) a) (cancel-absent rel peer id (away-find peer id (opens v) (apart-away peer (v .recs) (rel .tidy) a)))
+    go (inl a) =
+        rw (onFirst-absent (isOwn peer) change (v .recs) a) (cancel-absent rel peer id (away-find peer id (opens v) (apart-away peer (v .recs) (rel .tidy) a)))
     go (inr s) = inner (view (hasId id) (s .hit .cells))
       where
-        changes : (cells : List Cell) → onFirst (hasId id) shut (s .hit .cells) ≡ cells → onFirst (isOwn peer) change (v .recs) ≡ s .before ++ withCells (s .hit) cells ∷ s .after
+        changes : (cells : List Cell) → onFirst (hasId id) shut (s .hit .cells) ≡ cells
+            → onFirst (isOwn peer) change (v .recs) ≡ s .before ++ withCells (s .hit) cells ∷ s .after
         changes cells e = split-onFirst s change ∙ ap (λ (l : List Cell). s .before ++ withCells (s .hit) l ∷ s .after) e
 
-        inner : NoneOf (hasId id) (s .hit .cells) ⊎ Split (hasId id) (s .hit .cells) → Rel n (withRecs v (onFirst (isOwn peer) change (v .recs))) (without peer id b)
+        inner : NoneOf (hasId id) (s .hit .cells) ⊎ Split (hasId id) (s .hit .cells)
+            → Rel n (withRecs v (onFirst (isOwn peer) change (v .recs))) (without peer id b)
         inner (inl a) =
             rw (changes (s .hit .cells) (onFirst-absent (hasId id) shut (s .hit .cells) a) ∙ sym (s .parts))
             (cancel-absent rel peer id (own-find peer (rel .tidy) s id a))

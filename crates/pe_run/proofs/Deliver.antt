@@ -99,7 +99,9 @@ module _ (n peer request-id m : ℕ) (header body : List ℕ) where
             open′ = now-is ∙ ap (arrived peer request-id b) (settled-wait (held ++ (chunk ∷ [])) (d .chunk) (carried ds) still-one time)
 
             found : find peer request-id (now .model) ≡ some (openAt time (slotWith header m (held ++ (chunk ∷ []))))
-            found = ap (λ (r : Arrived). find peer request-id (r .model)) open′ ∙ find-arrived peer request-id b (openAt time (slotWith header m (held ++ (chunk ∷ []))))
+            found =
+                ap (λ (r : Arrived). find peer request-id (r .model)) open′
+                ∙ find-arrived peer request-id b (openAt time (slotWith header m (held ++ (chunk ∷ []))))
 
   story : (calls : List Call) → Story calls
   story [] b held last told g f s r = refl
@@ -109,7 +111,8 @@ module _ (n peer request-id m : ℕ) (header body : List ℕ) where
       go : (isOurs full peer request-id c ≡ true) ⊎ (isOurs full peer request-id c ≡ false) → Story calls
           → answersTo full peer request-id (c ∷ calls) (a ∷ told) ≡ delivered header body (mine (c ∷ calls))
       go (inl u) ih =
-          rw u (taken calls b held c k m a told (subst (λ (l : List Arrival). Good header body m (held ++ carried l)) (ours-first full peer request-id c k calls) g)
+          rw u (taken calls b held c k m a told
+          (subst (λ (l : List Arrival). Good header body m (held ++ carried l)) (ours-first full peer request-id c k calls) g)
           (rw (eqb-self m) (or-true (eqb m 0))) here (spared-first full peer request-id c k (map (actOf full) calls) last s) (r .0) (r .1) ih)
           ∙ ap (delivered header body) (sym (ours-first full peer request-id c k calls))
         where
@@ -126,7 +129,8 @@ module _ (n peer request-id m : ℕ) (header body : List ℕ) where
               ∙ ap₂ (λ (p i : ℕ). arrived p i b (judged full (openAt (k .arrival .time) (slotWith header m held)) (k .arrival .chunk)))
               (sym (peer-is full peer request-id c k)) (sym (id-is full peer request-id c k))
       go (inr u) ih =
-          let p = find-acted peer request-id b (openAt last (slotWith header m held)) f full (actOf full c) (map (actOf full) calls) (act-other full peer request-id c u) s in
+          let p = find-acted peer request-id b (openAt last (slotWith header m held)) f full (actOf full c) (map (actOf full) calls)
+          (act-other full peer request-id c u) s in
           let q = ours-other full peer request-id c calls u in
           rw u (ih (acted full b (actOf full c)) held last told (subst (λ (l : List Arrival). Good header body m (held ++ carried l)) q g) (p .0) (p .1) (r .1))
           ∙ ap (delivered header body) (sym q)
@@ -140,7 +144,8 @@ deliver n b peer request-id header body limit first rest [] d r = absurd r
 deliver n b peer request-id header body limit first rest (a ∷ told) d r =
     rw (d .first-of-them)
     (taken n peer request-id m header body rest b [] first k 0 a told good refl here
-    (spared-first (fullSize n) peer request-id first k (map (actOf (fullSize n)) rest) 0 (d .spared)) (r .0) (r .1) (story n peer request-id m header body rest))
+    (spared-first (fullSize n) peer request-id first k (map (actOf (fullSize n)) rest) 0 (d .spared)) (r .0) (r .1)
+    (story n peer request-id m header body rest))
     ∙ ap (delivered header body) (sym (ours-first (fullSize n) peer request-id first k rest))
   where
     m : ℕ
@@ -150,7 +155,9 @@ deliver n b peer request-id header body limit first rest (a ∷ told) d r =
     k = ours-told (fullSize n) peer request-id first (d .first-of-them)
 
     perm : Perm (carried (ours (fullSize n) peer request-id (first ∷ rest))) (map chunkIn (d .chunks))
-    perm = subst (λ (l : List Chunk). Perm l (map chunkIn (d .chunks))) (bytes-carried (fullSize n) peer request-id (first ∷ rest)) (perm-map chunkIn (d .each-once))
+    perm =
+        subst (λ (l : List Chunk). Perm l (map chunkIn (d .chunks))) (bytes-carried (fullSize n) peer request-id (first ∷ rest))
+        (perm-map chunkIn (d .each-once))
 
     good : Good header body m (k .arrival .chunk ∷ carried (ours (fullSize n) peer request-id rest))
     good =
@@ -168,4 +175,5 @@ deliver n b peer request-id header body limit first rest (a ∷ told) d r =
     here =
         arrive-new (fullSize n) (k .arrival .peer) b (k .arrival .chunk) (k .arrival .time)
         (subst (λ (p : ℕ). Room n p (k .arrival .chunk .request-id) b) peer-eq (subst (λ (i : ℕ). Room n peer i b) id-eq (d .room)))
-        ∙ ap₂ (λ (p i : ℕ). arrived p i b (judged (fullSize n) (openAt (k .arrival .time) (slotWith header 0 [])) (k .arrival .chunk))) (sym peer-eq) (sym id-eq)
+        ∙ ap₂ (λ (p i : ℕ). arrived p i b (judged (fullSize n) (openAt (k .arrival .time) (slotWith header 0 [])) (k .arrival .chunk))) (sym peer-eq)
+        (sym id-eq)

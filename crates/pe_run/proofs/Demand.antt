@@ -53,7 +53,10 @@ module _ (shape : Shape) where
       → tally (λ (r : Shown). eqb peer (r .peer)) (openSlots shape (tableFrom shape (made shape t) calls .numbers)) ≤ 4
   four-slots t long calls peer =
       let k = kept-all (made shape t) [] calls (kept-new shape t long) in
-      rw (open-rows shape (tableFrom shape (made shape t) calls) (k .long) (k .sound), tally-shown peer (opens (valueOf shape (tableFrom shape (made shape t) calls))))
+      rw (
+        open-rows shape (tableFrom shape (made shape t) calls) (k .long) (k .sound),
+        tally-shown peer (opens (valueOf shape (tableFrom shape (made shape t) calls))),
+      )
       (four-open (k .rel) (four-all [] calls (λ p. omega arith)) peer)
 
 -- ---- full size

@@ -65,8 +65,12 @@ cut : CutInto 5 header body 128 (chunkBytes one ∷ chunkBytes two ∷ [])
 cut = record { count = counted; each = each }
   where
     each : (k : ℕ) → k < 2 → cutChunk 5 header body 128 (suc k) 4096 ≡ granted (getD (chunkBytes one ∷ chunkBytes two ∷ []) k [])
-    each zero l = budget-is-room 5 header body 128 2 1 4096 counted (omega arith) (omega arith) (omega (arith, budget-between 128)) ∙ ap (λ (c : Chunk). granted (chunkBytes c)) first-chunk
-    each (suc zero) l = budget-is-room 5 header body 128 2 2 4096 counted (omega arith) (omega arith) (omega (arith, budget-between 128)) ∙ ap (λ (c : Chunk). granted (chunkBytes c)) second-chunk
+    each zero l =
+        budget-is-room 5 header body 128 2 1 4096 counted (omega arith) (omega arith) (omega (arith, budget-between 128))
+        ∙ ap (λ (c : Chunk). granted (chunkBytes c)) first-chunk
+    each (suc zero) l =
+        budget-is-room 5 header body 128 2 2 4096 counted (omega arith) (omega arith) (omega (arith, budget-between 128))
+        ∙ ap (λ (c : Chunk). granted (chunkBytes c)) second-chunk
     each (suc (suc k)) l = absurd (omega arith)
 
 one-in-range : InRange one
@@ -79,7 +83,15 @@ two-in-range = subst InRange second-chunk (fields-in-range 5 header body 128 2 2
 other-in-range : (request-id number : ℕ) → request-id ≤ 127 → number ≤ 16383 → InRange (other request-id number)
 unfolding isSevenBit
 other-in-range request-id number i n =
-    record { id = i; header-len = omega arith; property-len = omega arith; count = omega arith; number = n; header-bytes = refl; first = or-true (eqb number 1) }
+    record {
+      id = i;
+      header-len = omega arith;
+      property-len = omega arith;
+      count = omega arith;
+      number = n;
+      header-bytes = refl;
+      first = or-true (eqb number 1);
+    }
 
 -- ---- the first chunk in a message
 pub message-arrives : messageArrival (fullSize 2) message 9000 lentHeader lentBody ≡ granted (bearing 9 one 9000)

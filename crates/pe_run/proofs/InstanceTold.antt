@@ -46,7 +46,8 @@ next {b} {c} {calls} {x} {xs} left is on more = record { all = go }
         (more .all told (subst (λ (m : Model). AllRight (fullSize 2) m calls told) on (r .1)))
 
 -- a chunk that arrives
-next-chunk : {b : Model} {c : Call} {calls : List Call} {xs : List Answer} (a : Arrival) (left : Model) (answer : Reply Event) → arrivalOf (fullSize 2) c ≡ some a
+next-chunk : {b : Model} {c : Call} {calls : List Call} {xs : List Answer} (a : Arrival) (left : Model) (answer : Reply Event)
+    → arrivalOf (fullSize 2) c ≡ some a
     → arrives (fullSize 2) b (a .peer) (a .chunk) (a .time) ≡ record { model = left; answer = answer } → Told left calls xs
     → Told b (c ∷ calls) (fed (toldAnswer answer) (outHeader answer (a .out-header)) (outBody answer (a .out-body)) ∷ xs)
 next-chunk {b} {c} a left answer e f more =
@@ -61,7 +62,9 @@ none-late : (b : Model) (now-ms : ℕ) (a : Answer) → keep (isLate now-ms) b �
 none-late b now-ms a e t = go (t .rows) (perm-length (t .each-once) ∙ ap (λ (l : List Entry). length (map keyOf l)) e) (t .told)
   where
     go : (rows : List Key) → length rows ≡ 0
-        → a ≡ timed-out (granted (length rows)) (map (λ (k : Key). k .peer) rows ++ drop (length rows) places) (map (λ (k : Key). k .request-id) rows ++ drop (length rows) places)
+        → a
+        ≡ timed-out (granted (length rows)) (map (λ (k : Key). k .peer) rows ++ drop (length rows) places)
+        (map (λ (k : Key). k .request-id) rows ++ drop (length rows) places)
         → a ≡ timed-out (granted 0) places places
     go [] l q = q
     go (k ∷ rows) l q = absurd (omega (arith, l))
@@ -121,7 +124,8 @@ instance-told t long told r =
 pub instance-run : (t : Table) → LongEnough 2 t → Run (fullSize 2) (tableFrom (fullSize 2) (made (fullSize 2) t) before) (first ∷ rest) answers
 instance-run t long =
     let a = answered (fullSize 2) (tableFrom (fullSize 2) (made (fullSize 2) t) before) (first ∷ rest) in
-    subst (λ (told : List Answer). Run (fullSize 2) (tableFrom (fullSize 2) (made (fullSize 2) t) before) (first ∷ rest) told) (instance-told t long (a .0) (a .1)) (a .1)
+    subst (λ (told : List Answer). Run (fullSize 2) (tableFrom (fullSize 2) (made (fullSize 2) t) before) (first ∷ rest) told)
+    (instance-told t long (a .0) (a .1)) (a .1)
 
 -- There is such memory.
 pub memory-long : LongEnough 2 memory

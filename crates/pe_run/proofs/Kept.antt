@@ -52,7 +52,8 @@ record Stepped (shape : Shape) (t : Table) (b : Model) : Type 0 where
 module _ (shape : Shape) (t : Table) (b : Model) (k : Kept shape t b) where
   -- ---- what arrives, or is refused ahead
   module _ (out-header out-body : List ℕ) where
-    told-same : (r : Fed) (x y : Reply Event) → x ≡ y → r .answer ≡ toldAnswer x → r .memory .out-header ≡ outHeader x out-header → r .memory .out-body ≡ outBody x out-body
+    told-same : (r : Fed) (x y : Reply Event) → x ≡ y → r .answer ≡ toldAnswer x → r .memory .out-header ≡ outHeader x out-header
+        → r .memory .out-body ≡ outBody x out-body
         → feedTold r ≡ fed (toldAnswer y) (outHeader y out-header) (outBody y out-body)
     told-same r x y e f g h = rw (f, g, h, e)
 
@@ -61,10 +62,13 @@ module _ (shape : Shape) (t : Table) (b : Model) (k : Kept shape t b) where
     reached-stepped (granted a) small =
         let s = small a refl in
         let w = s .number in
-        let v = feed-value shape t out-header out-body (a .peer) (a .chunk) (a .time) (k .long) (k .sound) (s .header-room) (s .body-room) (s .property) (omega arith) in
+        let v = feed-value shape t out-header out-body (a .peer) (a .chunk) (a .time) (k .long) (k .sound) (s .header-room) (s .body-room) (s .property)
+        (omega arith) in
         record {
           long = v .long;
-          rel = subst (λ (x : Value). Rel (shape .«max_peers») x (arrives shape b (a .peer) (a .chunk) (a .time) .model)) (sym (v .value-is)) (take-rel shape (k .rel) (a .peer) (a .chunk) (a .time) .rel);
+          rel =
+              subst (λ (x : Value). Rel (shape .«max_peers») x (arrives shape b (a .peer) (a .chunk) (a .time) .model)) (sym (v .value-is))
+              (take-rel shape (k .rel) (a .peer) (a .chunk) (a .time) .rel);
         }
     reached-stepped (refused number value) small = record { long = k .long; rel = k .rel }
 
@@ -73,8 +77,10 @@ module _ (shape : Shape) (t : Table) (b : Model) (k : Kept shape t b) where
     reached-right (granted a) small =
         let s = small a refl in
         let w = s .number in
-        let v = feed-value shape t out-header out-body (a .peer) (a .chunk) (a .time) (k .long) (k .sound) (s .header-room) (s .body-room) (s .property) (omega arith) in
-        told-same (reached shape t out-header out-body (granted a)) _ _ (take-rel shape (k .rel) (a .peer) (a .chunk) (a .time) .answer-is) (v .answer-is) (v .out-header-is) (v .out-body-is)
+        let v = feed-value shape t out-header out-body (a .peer) (a .chunk) (a .time) (k .long) (k .sound) (s .header-room) (s .body-room) (s .property)
+        (omega arith) in
+        told-same (reached shape t out-header out-body (granted a)) _ _ (take-rel shape (k .rel) (a .peer) (a .chunk) (a .time) .answer-is) (v .answer-is)
+        (v .out-header-is) (v .out-body-is)
     reached-right (refused number value) small = refl
 
   with-sound : (t′ : Table) (b′ : Model) → SlotsSound shape (t′ .numbers) (t′ .index) → Stepped shape t′ b′ → Kept shape t′ b′
@@ -87,41 +93,58 @@ module _ (shape : Shape) (t : Table) (b : Model) (k : Kept shape t b) where
       with-sound _ _ (sound-feed shape (lent t out-header out-body) (k .sound) peer chunk now-ms)
       (subst (λ (r : Fed). Stepped shape (kept r) (acted shape b (arrivalAct (grantedOf (fedArrival shape peer chunk now-ms out-header out-body)))))
       (sym (feed-ahead shape t (k .long) out-header out-body now-ms peer chunk))
-      (reached-stepped out-header out-body (fedArrival shape peer chunk now-ms out-header out-body) (λ a q. fed-small shape now-ms out-header out-body a peer chunk q)))
+      (reached-stepped out-header out-body (fedArrival shape peer chunk now-ms out-header out-body)
+      (λ a q. fed-small shape now-ms out-header out-body a peer chunk q)))
 
   message-kept : (message : List ℕ) (now-ms : ℕ) (out-header out-body : List ℕ)
-      → Kept shape (step shape t (feed-message message now-ms out-header out-body)) (acted shape b (actOf shape (feed-message message now-ms out-header out-body)))
+      → Kept shape (step shape t (feed-message message now-ms out-header out-body))
+      (acted shape b (actOf shape (feed-message message now-ms out-header out-body)))
   message-kept message now-ms out-header out-body =
       with-sound _ _ (sound-message shape (lent t out-header out-body) (k .sound) message now-ms)
       (subst (λ (r : Fed). Stepped shape (kept r) (acted shape b (arrivalAct (grantedOf (messageArrival shape message now-ms out-header out-body)))))
       (sym (message-ahead shape t (k .long) out-header out-body now-ms message))
-      (reached-stepped out-header out-body (messageArrival shape message now-ms out-header out-body) (λ a q. message-small shape now-ms out-header out-body a message q)))
+      (reached-stepped out-header out-body (messageArrival shape message now-ms out-header out-body)
+      (λ a q. message-small shape now-ms out-header out-body a message q)))
 
   cancel-stepped : (peer request-id : ℕ) → (isMuid peer ≡ true) ⊎ (isMuid peer ≡ false)
       → Stepped shape (step shape t (cancel peer request-id)) (acted shape b (actOf shape (cancel peer request-id)))
   cancel-stepped peer request-id (inl e) =
       let v = cancel-value shape t peer request-id (k .long) e in
-      rw e (record { long = v .long; rel = subst (λ (x : Value). Rel (shape .«max_peers») x (acted shape b (Acts.cancel peer request-id))) (sym (v .value-is)) (cancel-rel (k .rel) peer request-id) })
+      rw e (record {
+        long = v .long;
+        rel =
+            subst (λ (x : Value). Rel (shape .«max_peers») x (acted shape b (Acts.cancel peer request-id))) (sym (v .value-is))
+            (cancel-rel (k .rel) peer request-id);
+      })
   cancel-stepped peer request-id (inr e) = rw (e, cancel-refused shape t peer request-id (k .long) e) (record { long = k .long; rel = k .rel })
 
-  drop-stepped : (peer : ℕ) → (isMuid peer ≡ true) ⊎ (isMuid peer ≡ false) → Stepped shape (step shape t (drop-peer peer)) (acted shape b (actOf shape (drop-peer peer)))
+  drop-stepped : (peer : ℕ) → (isMuid peer ≡ true) ⊎ (isMuid peer ≡ false)
+      → Stepped shape (step shape t (drop-peer peer)) (acted shape b (actOf shape (drop-peer peer)))
   drop-stepped peer (inl e) =
       let v = drop-value shape t peer (k .long) e in
-      rw e (record { long = v .long; rel = subst (λ (x : Value). Rel (shape .«max_peers») x (acted shape b (Acts.drop peer))) (sym (v .value-is)) (drop-rel (k .rel) peer) })
+      rw e (record {
+        long = v .long;
+        rel = subst (λ (x : Value). Rel (shape .«max_peers») x (acted shape b (Acts.drop peer))) (sym (v .value-is)) (drop-rel (k .rel) peer);
+      })
   drop-stepped peer (inr e) = rw (e, drop-refused shape t peer (k .long) e) (record { long = k .long; rel = k .rel })
 
   module _ (now-ms : ℕ) (out-peers out-ids : List ℕ) where
-    poll-stepped : ((hasPlaces (shape .«max_peers») out-peers && hasPlaces (shape .«max_peers») out-ids) ≡ true) ⊎ ((hasPlaces (shape .«max_peers») out-peers && hasPlaces (shape .«max_peers») out-ids) ≡ false)
+    poll-stepped : ((hasPlaces (shape .«max_peers») out-peers && hasPlaces (shape .«max_peers») out-ids) ≡ true) ⊎
+        ((hasPlaces (shape .«max_peers») out-peers && hasPlaces (shape .«max_peers») out-ids) ≡ false)
         → Stepped shape (step shape t (poll now-ms out-peers out-ids)) (acted shape b (actOf shape (poll now-ms out-peers out-ids)))
     poll-stepped (inl e) =
         let v = poll-value shape t now-ms out-peers out-ids (k .long) e in
-        rw e (record { long = v .long; rel = subst (λ (x : Value). Rel (shape .«max_peers») x (acted shape b (Acts.poll now-ms))) (sym (v .value-is)) (poll-rel (k .rel) now-ms) })
+        rw e (record {
+          long = v .long;
+          rel = subst (λ (x : Value). Rel (shape .«max_peers») x (acted shape b (Acts.poll now-ms))) (sym (v .value-is)) (poll-rel (k .rel) now-ms);
+        })
     poll-stepped (inr e) = rw (e, poll-refused shape t now-ms out-peers out-ids (k .long) e) (record { long = k .long; rel = k .rel })
 
   pub step-kept : (c : Call) → Kept shape (step shape t c) (acted shape b (actOf shape c))
   step-kept (feed peer chunk now-ms out-header out-body) = feed-kept peer chunk now-ms out-header out-body
   step-kept (feed-message message now-ms out-header out-body) = message-kept message now-ms out-header out-body
-  step-kept (cancel peer request-id) = with-sound _ _ (sound-cancel shape (t .numbers) (t .index) (k .sound) peer request-id) (cancel-stepped peer request-id (both (isMuid peer)))
+  step-kept (cancel peer request-id) =
+      with-sound _ _ (sound-cancel shape (t .numbers) (t .index) (k .sound) peer request-id) (cancel-stepped peer request-id (both (isMuid peer)))
   step-kept (drop-peer peer) = with-sound _ _ (sound-drop shape (t .numbers) (t .index) (k .sound) peer) (drop-stepped peer (both (isMuid peer)))
   step-kept (poll now-ms out-peers out-ids) =
       with-sound _ _ (sound-poll shape (t .numbers) (t .index) (k .sound) now-ms out-peers out-ids)
@@ -145,10 +168,12 @@ module _ (shape : Shape) (t : Table) (b : Model) (k : Kept shape t b) where
   pub right : (c : Call) (a : Answer) → Answers shape t c a → Right shape b c a
   right (feed peer chunk now-ms out-header out-body) a e =
       e ∙ ap feedTold (feed-ahead shape t (k .long) out-header out-body now-ms peer chunk)
-      ∙ reached-right out-header out-body (fedArrival shape peer chunk now-ms out-header out-body) (λ x q. fed-small shape now-ms out-header out-body x peer chunk q)
+      ∙ reached-right out-header out-body (fedArrival shape peer chunk now-ms out-header out-body)
+      (λ x q. fed-small shape now-ms out-header out-body x peer chunk q)
   right (feed-message message now-ms out-header out-body) a e =
       e ∙ ap feedTold (message-ahead shape t (k .long) out-header out-body now-ms message)
-      ∙ reached-right out-header out-body (messageArrival shape message now-ms out-header out-body) (λ x q. message-small shape now-ms out-header out-body x message q)
+      ∙ reached-right out-header out-body (messageArrival shape message now-ms out-header out-body)
+      (λ x q. message-small shape now-ms out-header out-body x message q)
   right (cancel peer request-id) a e = e ∙ ap (λ (r : Reply Bool). was-open r) (cancel-told peer request-id (both (isMuid peer)))
   right (drop-peer peer) a e = e ∙ ap (λ (r : Reply ℕ). counted r) (drop-told peer (both (isMuid peer)))
   right (poll now-ms out-peers out-ids) a e = poll-right shape t b (k .long) (k .rel .same) now-ms out-peers out-ids a e

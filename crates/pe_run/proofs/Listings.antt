@@ -33,13 +33,16 @@ module _ (shape : Shape) (t : Table) (b : Model) (long : LongFor shape t) (order
     due-once : Perm (map keyT due) (map keyOf (keep (isLate now-ms) b))
     due-once =
         then (perm-map keyT (sorted-perm (dueFrom (t .numbers) now-ms 0 0 (4 * shape .«max_peers»))))
-        (subst (λ (l : List Key). Perm l (map keyOf (keep (isLate now-ms) b))) (sym (due-rows shape t now-ms)) (perm-map keyOf (perm-keep (isLate now-ms) order)))
+        (subst (λ (l : List Key). Perm l (map keyOf (keep (isLate now-ms) b))) (sym (due-rows shape t now-ms))
+        (perm-map keyOf (perm-keep (isLate now-ms) order)))
 
     abbrev pollAnswer : Polled → Answer
     pollAnswer r = timed-out (r .answer) (r .out-peers) (r .out-ids)
 
     pub poll-right : (a : Answer) → Answers shape t (poll now-ms out-peers out-ids) a → Right shape b (poll now-ms out-peers out-ids) a
-    poll-right a e = go (hasPlaces (shape .«max_peers») out-peers && hasPlaces (shape .«max_peers») out-ids) (e ∙ ap pollAnswer (poll-ahead shape t long now-ms out-peers out-ids))
+    poll-right a e =
+        go (hasPlaces (shape .«max_peers») out-peers && hasPlaces (shape .«max_peers») out-ids)
+        (e ∙ ap pollAnswer (poll-ahead shape t long now-ms out-peers out-ids))
       where
         go : (places : Bool)
             → a ≡ pollAnswer (cond places

@@ -74,7 +74,8 @@ Unique (e ∷ b) = (find (e .peer) (e .request-id) b ≡ none) × Unique b
 swap-find : (peer id : ℕ) (x y : Entry) (b : Model) → isAt (x .peer) (x .request-id) y ≡ false → find peer id (x ∷ y ∷ b) ≡ find peer id (y ∷ x ∷ b)
 swap-find peer id x y b h = go (both (isAt peer id x)) (both (isAt peer id y))
   where
-    go : (isAt peer id x ≡ true) ⊎ (isAt peer id x ≡ false) → (isAt peer id y ≡ true) ⊎ (isAt peer id y ≡ false) → find peer id (x ∷ y ∷ b) ≡ find peer id (y ∷ x ∷ b)
+    go : (isAt peer id x ≡ true) ⊎ (isAt peer id x ≡ false) → (isAt peer id y ≡ true) ⊎ (isAt peer id y ≡ false)
+        → find peer id (x ∷ y ∷ b) ≡ find peer id (y ∷ x ∷ b)
     go (inl a) (inl d) = let z : isAt peer id y ≡ false = at-both peer id x y a ∙ h in cc
     go (inl a) (inr d) = rw (a, d)
     go (inr a) (inl d) = rw (a, d)
@@ -138,8 +139,10 @@ without-fewer peer id [] x h = let z : _≡_ {A = ℕ} 0 1 = cc in omega arith
 without-fewer peer id (e ∷ b) x h = go (both (isAt peer id e)) (both (eqb peer (e .peer))) (without-fewer peer id b x)
   where
     go : (isAt peer id e ≡ true) ⊎ (isAt peer id e ≡ false) → (eqb peer (e .peer) ≡ true) ⊎ (eqb peer (e .peer) ≡ false)
-        → (find peer id b ≡ some x → tally (isOf peer) (without peer id b) < tally (isOf peer) b) → tally (isOf peer) (without peer id (e ∷ b)) < tally (isOf peer) (e ∷ b)
-    go (inl a) d r = rw (a, and-told (eqb peer (e .peer)) (eqb id (e .request-id)) a .0) (omega (arith, tally-keep (isOf peer) (λ (y : Entry). not (isAt peer id y)) b))
+        → (find peer id b ≡ some x → tally (isOf peer) (without peer id b) < tally (isOf peer) b)
+        → tally (isOf peer) (without peer id (e ∷ b)) < tally (isOf peer) (e ∷ b)
+    go (inl a) d r =
+        rw (a, and-told (eqb peer (e .peer)) (eqb id (e .request-id)) a .0) (omega (arith, tally-keep (isOf peer) (λ (y : Entry). not (isAt peer id y)) b))
     go (inr a) (inl d) r = rw (a, d) (omega (arith, r (rw a at h)))
     go (inr a) (inr d) r = rw (a, d) (r (rw a at h))
 
@@ -148,9 +151,11 @@ unfolding hasFour
 four-arrived peer id b none h e other = four-keep (λ (y : Entry). not (isAt peer id y)) b h other
 four-arrived peer id b (some y) h e other = go (both (eqb other peer)) (find peer id b) refl
   where
-    go : (eqb other peer ≡ true) ⊎ (eqb other peer ≡ false) → (o : Option Open) → find peer id b ≡ o → tally (isOf other) (entryOf peer id (some y) ++ without peer id b) ≤ 4
+    go : (eqb other peer ≡ true) ⊎ (eqb other peer ≡ false) → (o : Option Open) → find peer id b ≡ o
+        → tally (isOf other) (entryOf peer id (some y) ++ without peer id b) ≤ 4
     go (inl a) (some x) w =
-        rw a (subst (λ (k : ℕ). suc (tally (isOf k) (without peer id b)) ≤ 4) (sym (eqb-true other peer a)) (omega (arith, without-fewer peer id b x w, h peer)))
+        rw a (subst (λ (k : ℕ). suc (tally (isOf k) (without peer id b)) ≤ 4) (sym (eqb-true other peer a))
+        (omega (arith, without-fewer peer id b x w, h peer)))
     go (inl a) none w =
         let spare : leb 4 (tally (isOf peer) b) ≡ false = rw w at e in
         rw a (subst (λ (k : ℕ). suc (tally (isOf k) (without peer id b)) ≤ 4) (sym (eqb-true other peer a))

@@ -48,7 +48,8 @@ module _ {A : Type 0} where
       each x (y ∷ xs) ∙ ap (f x) (each y xs) ∙ turn x y (g xs) ∙ sym (each y (x ∷ xs) ∙ ap (f y) (each x xs))
   perm-fold f turn g each (then p q) = perm-fold f turn g each p ∙ perm-fold f turn g each q
 
-  pub perm-sum : (weight : A → ℕ) (sum : List A → ℕ) → ((x : A) (xs : List A) → sum (x ∷ xs) ≡ weight x + sum xs) → {xs ys : List A} → Perm xs ys → sum xs ≡ sum ys
+  pub perm-sum : (weight : A → ℕ) (sum : List A → ℕ) → ((x : A) (xs : List A) → sum (x ∷ xs) ≡ weight x + sum xs) → {xs ys : List A} → Perm xs ys
+      → sum xs ≡ sum ys
   perm-sum weight sum each p = perm-fold (λ (x : A) (n : ℕ). weight x + n) (λ x y n. turn (weight x) (weight y) n) sum each p
     where
       turn : (a b n : ℕ) → a + (b + n) ≡ b + (a + n)
@@ -108,7 +109,8 @@ perm-different empty = refl
 perm-different (skip {x = x} p) = ap₂ (λ (b : Bool) (n : ℕ). cond b n (suc n)) (perm-memb x p) (perm-different p)
 perm-different (swap {x = x} {y = y} {xs = xs}) = go (both (eqb x y)) (both (memb x xs)) (both (memb y xs))
   where
-    go : (eqb x y ≡ true) ⊎ (eqb x y ≡ false) → (memb x xs ≡ true) ⊎ (memb x xs ≡ false) → (memb y xs ≡ true) ⊎ (memb y xs ≡ false) → different (x ∷ y ∷ xs) ≡ different (y ∷ x ∷ xs)
+    go : (eqb x y ≡ true) ⊎ (eqb x y ≡ false) → (memb x xs ≡ true) ⊎ (memb x xs ≡ false) → (memb y xs ≡ true) ⊎ (memb y xs ≡ false)
+        → different (x ∷ y ∷ xs) ≡ different (y ∷ x ∷ xs)
     go (inl e) b c = rw (eqb-true x y e)
     go (inr e) (inl b) (inl c) = rw (eqb-sym y x, e, b, c)
     go (inr e) (inl b) (inr c) = rw (eqb-sym y x, e, b, c)

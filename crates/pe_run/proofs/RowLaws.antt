@@ -37,7 +37,8 @@ module _ {A : Type 0} (test : ℕ → ℕ → Bool) (row : ℕ → ℕ → A) wh
   unfolding rowsFrom
   rows-mapped {B} f p s zero = refl
   rows-mapped {B} f p s (suc k) =
-      map-append f (rowOf p s) _ ∙ ap₂ (λ (xs ys : List B). xs ++ ys) (one (test p s)) (go (leb 3 s) _ _ (rows-mapped f (p + 1) 0 k) (rows-mapped f p (s + 1) k))
+      map-append f (rowOf p s) _
+      ∙ ap₂ (λ (xs ys : List B). xs ++ ys) (one (test p s)) (go (leb 3 s) _ _ (rows-mapped f (p + 1) 0 k) (rows-mapped f p (s + 1) k))
     where
       one : (b : Bool) → map f (cond b (row p s ∷ []) []) ≡ cond b (f (row p s) ∷ []) []
       one true = refl
@@ -48,7 +49,8 @@ module _ {A : Type 0} (test : ℕ → ℕ → Bool) (row : ℕ → ℕ → A) wh
       go false x y e e′ = e′
 
 -- what is shown of a model entry by entry: by each slot, and so by all of them
-module _ {A : Type 0} (g : Model → List A) (none-shown : g [] ≡ []) (both-shown : (xs ys : Model) → g (xs ++ ys) ≡ g xs ++ g ys) (shape : Shape) (t : Table) (test : ℕ → ℕ → Bool) (row : ℕ → ℕ → A) where
+module _ {A : Type 0} (g : Model → List A) (none-shown : g [] ≡ []) (both-shown : (xs ys : Model) → g (xs ++ ys) ≡ g xs ++ g ys) (shape : Shape) (t : Table)
+    (test : ℕ → ℕ → Bool) (row : ℕ → ℕ → A) where
   abbrev Slots : ℕ → ℕ → Type 0
   Slots p k = (i s : ℕ) → p ≤ i → i < p + k → s < 4 → rowOf test row i s ≡ g (cond (isActive (t .numbers) i s) (entryAt shape t i s ∷ []) [])
 
@@ -75,7 +77,8 @@ module _ {A : Type 0} (g : Model → List A) (none-shown : g [] ≡ []) (both-sh
   rows-by h = rows-from 0 (shape .«max_peers») (λ p s a b l. h p s (omega arith) l)
 
 -- ---- the open slots
-pub open-rows : (shape : Shape) (t : Table) → LongFor shape t → SlotsSound shape (t .numbers) (t .index) → openSlots shape (t .numbers) ≡ map shownOf (opens (valueOf shape t))
+pub open-rows : (shape : Shape) (t : Table) → LongFor shape t → SlotsSound shape (t .numbers) (t .index)
+    → openSlots shape (t .numbers) ≡ map shownOf (opens (valueOf shape t))
 unfolding openSlots
 open-rows shape t long sound =
     rows-by (λ (b : Model). map shownOf b) refl (map-append shownOf) shape t (isActive (t .numbers)) (shownAt (t .numbers))
@@ -93,7 +96,8 @@ keyT t = record { peer = t .peer; request-id = t .request-id }
 abbrev lateKeys : ℕ → Model → List Key
 lateKeys now-ms b = map keyOf (keep (isLate now-ms) b)
 
-pub due-rows : (shape : Shape) (t : Table) (now-ms : ℕ) → map keyT (dueFrom (t .numbers) now-ms 0 0 (4 * shape .«max_peers»)) ≡ map keyOf (keep (isLate now-ms) (opens (valueOf shape t)))
+pub due-rows : (shape : Shape) (t : Table) (now-ms : ℕ)
+    → map keyT (dueFrom (t .numbers) now-ms 0 0 (4 * shape .«max_peers»)) ≡ map keyOf (keep (isLate now-ms) (opens (valueOf shape t)))
 unfolding isDue
 due-rows shape t now-ms =
     rows-mapped (isDue (t .numbers) now-ms) (timeoutOf (t .numbers)) keyT 0 0 (4 * shape .«max_peers»)

@@ -36,7 +36,8 @@ module _ (g : Model → ℕ) (none-held : g [] ≡ 0) (both-held : (xs ys : Mode
       let rest = sums-from (suc p) k (λ i s a b l. h i s (omega arith) (omega arith) l) in
       let z : p + suc k ≡ suc p + k = omega arith in
       ap (overSlots f) z ∙ rest
-      ∙ more (g (recsOpen (recsFrom shape t (suc p) k))) (g (c 0)) (g (c 1)) (g (c 2)) (g (c 3)) (one 0 (omega arith)) (one 1 (omega arith)) (one 2 (omega arith)) (one 3 (omega arith))
+      ∙ more (g (recsOpen (recsFrom shape t (suc p) k))) (g (c 0)) (g (c 1)) (g (c 2)) (g (c 3)) (one 0 (omega arith)) (one 1 (omega arith))
+      (one 2 (omega arith)) (one 3 (omega arith))
       ∙ ap (λ (r : ℕ). overSlots f p + r) (sym (four-held (c 0) (c 1) (c 2) (c 3) (recsOpen (recsFrom shape t (suc p) k))))
     where
       more : (r a b c d : ℕ) → f p 0 ≡ a → f p 1 ≡ b → f p 2 ≡ c → f p 3 ≡ d → overSlots f (suc p) + r ≡ overSlots f p + ((a + b + c + d) + r)
@@ -57,7 +58,8 @@ bytes-both (x ∷ xs) ys = rw (bytes-both xs ys) (group (entryBytes x) (bytesOpe
     group : (a b c : ℕ) → a + (b + c) ≡ a + b + c
     group a b c = omega arith
 
-pub bytes-held : (shape : Shape) (t : Table) → LongFor shape t → SlotsSound shape (t .numbers) (t .index) → overSlots (slotBytes (t .numbers)) (shape .«max_peers») ≡ bytesOpen (opens (valueOf shape t))
+pub bytes-held : (shape : Shape) (t : Table) → LongFor shape t → SlotsSound shape (t .numbers) (t .index)
+    → overSlots (slotBytes (t .numbers)) (shape .«max_peers») ≡ bytesOpen (opens (valueOf shape t))
 unfolding slotBytes
 bytes-held shape t long sound =
     sums-by bytesOpen refl bytes-both shape t (slotBytes (t .numbers))

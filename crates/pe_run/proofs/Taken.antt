@@ -109,12 +109,14 @@ module _ {n : ℕ} {header body : List ℕ} (held-now : List Chunk) (c : Chunk) 
       fits (inl e) = rw e (le-leb (length (c .header)) 4096 (omega (arith, ap length (of .header-is e), g .header-fits)))
       fits (inr e) = rw e
 
-      agrees : (eqb (c .chunk-num) 1 ≡ true) ⊎ (eqb (c .chunk-num) 1 ≡ false) → (not (eqb (c .chunk-num) 1) || sameHeader (headerWith header held-now) (c .header)) ≡ true
+      agrees : (eqb (c .chunk-num) 1 ≡ true) ⊎ (eqb (c .chunk-num) 1 ≡ false)
+          → (not (eqb (c .chunk-num) 1) || sameHeader (headerWith header held-now) (c .header)) ≡ true
       agrees (inl e) = rw (e, headless e) (unfold sameHeader in refl)
       agrees (inr e) = rw e
 
   -- the slot then holds it too
-  after-header : cond (eqb (c .chunk-num) 1 && isNone (headerWith header held-now)) (some (c .header)) (headerWith header held-now) ≡ headerWith header (held-now ++ (c ∷ []))
+  after-header : cond (eqb (c .chunk-num) 1 && isNone (headerWith header held-now)) (some (c .header)) (headerWith header held-now) ≡ headerWith header
+      (held-now ++ (c ∷ []))
   unfolding isNone
   after-header = go (both (eqb (c .chunk-num) 1))
     where
@@ -130,7 +132,8 @@ module _ {n : ℕ} {header body : List ℕ} (held-now : List Chunk) (c : Chunk) 
       either false = refl
 
       go : (eqb (c .chunk-num) 1 ≡ true) ⊎ (eqb (c .chunk-num) 1 ≡ false)
-          → cond (eqb (c .chunk-num) 1 && isNone (headerWith header held-now)) (some (c .header)) (headerWith header held-now) ≡ headerWith header (held-now ++ (c ∷ []))
+          → cond (eqb (c .chunk-num) 1 && isNone (headerWith header held-now)) (some (c .header)) (headerWith header held-now)
+          ≡ headerWith header (held-now ++ (c ∷ []))
       go (inl e) =
           let now : memb 1 (numbers (held-now ++ (c ∷ []))) ≡ true = one-more ∙ rw (eqb-sym 1 (c .chunk-num), e) (either (memb 1 (numbers held-now))) in
           rw (e, headless e, now) (ap {B = Option (List ℕ)} some (of .header-is e))
@@ -146,7 +149,8 @@ module _ {n : ℕ} {header body : List ℕ} (held-now : List Chunk) (c : Chunk) 
       go false q = eqb-true count n q
 
   after-held : (count : ℕ) → (eqb count 0 || eqb count n) ≡ true
-      → afterChunk (slotWith header count held-now) c (newHeader (slotWith header count held-now) c) (newCount (slotWith header count held-now) c) true ≡ slotWith header n (held-now ++ (c ∷ []))
+      → afterChunk (slotWith header count held-now) c (newHeader (slotWith header count held-now) c) (newCount (slotWith header count held-now) c) true
+      ≡ slotWith header n (held-now ++ (c ∷ []))
   unfolding afterChunk newHeader newCount
   after-held count k = rw (after-header, after-count count k, map-append pieceIn held-now (c ∷ [])) refl
 

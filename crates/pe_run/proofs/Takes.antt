@@ -37,7 +37,8 @@ finds-fewer : (n peer : ℕ) (b : Model) → peersOpen b < n → findsRecord n p
 unfolding findsRecord
 finds-fewer n peer b h = rw (lt-ltb (peersOpen b) n h) (or-true (not (eqb (openOf peer b) 0)))
 
-finds-idle : {n : ℕ} {v : Value} {b : Model} → Rel n v b → (peer : ℕ) {test : Rec → Bool} (s : Split test (v .recs)) → isIdle (s .hit) ≡ true → findsRecord n peer b ≡ true
+finds-idle : {n : ℕ} {v : Value} {b : Model} → Rel n v b → (peer : ℕ) {test : Rec → Bool} (s : Split test (v .recs)) → isIdle (s .hit) ≡ true
+    → findsRecord n peer b ≡ true
 finds-idle {n} {v} {b} rel peer s h = finds-fewer n peer b (omega (arith, peers-are rel, split-short s isBusy (rw h), rel .size))
 
 -- the two refusals
@@ -76,7 +77,8 @@ module _ (shape : Shape) (v : Value) (peer : ℕ) (c : Chunk) (now-ms : ℕ) whe
         answer = j .answer;
       }
 
-      takes-at : chooseCell (c .request-id) (s .hit .cells) ≡ some (length (u .before)) → takes shape v peer c now-ms ≡ taking (judged shape (touchedAt (u .hit .state) now-ms) c)
+      takes-at : chooseCell (c .request-id) (s .hit .cells) ≡ some (length (u .before))
+          → takes shape v peer c now-ms ≡ taking (judged shape (touchedAt (u .hit .state) now-ms) c)
       unfolding takeRec takeCell
       takes-at e =
           takes-in ∙ ap (takeRec shape v peer c now-ms (length (s .before)) (s .hit)) e
@@ -91,14 +93,16 @@ module _ (shape : Shape) (v : Value) (peer : ℕ) (c : Chunk) (now-ms : ℕ) whe
 
           stored : Judged → Taken
           stored j = record {
-            value = record { clock = nextTick (v .clock); recs = set (v .recs) (length (s .before)) (bound (set (s .hit .cells) (length (u .before)) (new j))) };
+            value =
+                record { clock = nextTick (v .clock); recs = set (v .recs) (length (s .before)) (bound (set (s .hit .cells) (length (u .before)) (new j))) };
             answer = j .answer;
           }
 
           there : (j : Judged) → stored j ≡ taking j
           there j =
               ap (λ (recs : List Rec). record { value = record { clock = nextTick (v .clock); recs = recs }; answer = j .answer })
-              (ap (λ (cells : List Cell). set (v .recs) (length (s .before)) (bound cells)) (split-set u (new j)) ∙ split-set s (bound (u .before ++ new j ∷ u .after)))
+              (ap (λ (cells : List Cell). set (v .recs) (length (s .before)) (bound cells)) (split-set u (new j))
+              ∙ split-set s (bound (u .before ++ new j ∷ u .after)))
 
 -- ---- value and model
 -- one answer, and what both leave
@@ -153,7 +157,8 @@ module _ (shape : Shape) {v : Value} {b : Model} (rel : Rel (shape .«max_peers�
     open-both u a same-before same-after room =
         judged-both u (rw (place-absent (hasId (c .request-id)) (s .hit .cells) a) (split-place u))
         (rw (without-none peer (c .request-id) b (room .not-open)) (then (perm-sym here) (rel .same)))
-        (arrive-new shape peer b c now-ms room ∙ ap (λ (o : Option Open). arrived peer (c .request-id) b (judged shape (touchedAt o now-ms) c)) (sym (free-none (u .hit) (u .passes))))
+        (arrive-new shape peer b c now-ms room
+        ∙ ap (λ (o : Option Open). arrived peer (c .request-id) b (judged shape (touchedAt o now-ms) c)) (sym (free-none (u .hit) (u .passes))))
       where
         here : Perm (opens v) (rest s u peer)
         here = subst (λ (l : Model). Perm (opens v) l)
@@ -162,7 +167,8 @@ module _ (shape : Shape) {v : Value} {b : Model} (rel : Rel (shape .«max_peers�
             (here-open s u)
 
   -- a record with nothing open, and none is the peer's own
-  idle-both : {test : Rec → Bool} (s : Split test (v .recs)) → choose peer (v .recs) ≡ some (length (s .before)) → Apart peer (v .recs) → isIdle (s .hit) ≡ true → Goal
+  idle-both : {test : Rec → Bool} (s : Split test (v .recs)) → choose peer (v .recs) ≡ some (length (s .before)) → Apart peer (v .recs) → isIdle (s .hit) ≡ true
+      → Goal
   idle-both s chosen apart idle =
       let i = idle-split (s .hit .cells) idle (split-hit s FourCells (rel .fours)) in
       open-both s chosen (all-first own (s .before) (s .hit ∷ s .after) parts) (all-second own (s .before) (s .hit ∷ s .after) parts .1)
@@ -222,7 +228,8 @@ module _ (shape : Shape) {v : Value} {b : Model} (rel : Rel (shape .«max_peers�
       ids (inr u) =
           let o = own-open rel peer (c .request-id) s u in
           judged-both s chosen (s .fails) behind u (rw (split-place u)) (o .3)
-          (arrive-open shape peer b (o .0) c now-ms (o .2) ∙ ap (λ (x : Option Open). arrived peer (c .request-id) b (judged shape (touchedAt x now-ms) c)) (sym (o .1)))
+          (arrive-open shape peer b (o .0) c now-ms (o .2)
+          ∙ ap (λ (x : Option Open). arrived peer (c .request-id) b (judged shape (touchedAt x now-ms) c)) (sym (o .1)))
 
   pub take-rel : Goal
   take-rel = owns (view (isOwn peer) (v .recs))
@@ -230,7 +237,8 @@ module _ (shape : Shape) {v : Value} {b : Model} (rel : Rel (shape .«max_peers�
       idles : Apart peer (v .recs) → NoneOf isUnbound (v .recs) → NoneOf isIdle (v .recs) ⊎ Split isIdle (v .recs) → Goal
       idles apart bound (inl a) =
           refused-both 7
-          (takes-full shape v peer c now-ms (rw (place-absent (isOwn peer) (v .recs) apart, place-absent isUnbound (v .recs) bound) (place-absent isIdle (v .recs) a)))
+          (takes-full shape v peer c now-ms
+          (rw (place-absent (isOwn peer) (v .recs) apart, place-absent isUnbound (v .recs) bound) (place-absent isIdle (v .recs) a)))
           (arrive-full shape peer b c now-ms (tally-is rel peer ∙ away-tally peer (opens v) (apart-away peer (v .recs) (rel .tidy) apart))
           (omega (arith, peers-are rel, tally-all isIdle (v .recs) a, rel .size)))
       idles apart bound (inr s) =

@@ -42,7 +42,8 @@ cellOf words index header arena =
 
 unfoldable pub cellAt : Shape → Table → ℕ → ℕ → Cell
 cellAt shape t p s =
-    cellOf (wordsPart (t .numbers) p s) (roomPart (shape .«fragment_records») (t .index) p s) (roomPart (shape .«header_bytes») (t .headers) p s) (roomPart (shape .«tx_bytes») (t .arenas) p s)
+    cellOf (wordsPart (t .numbers) p s) (roomPart (shape .«fragment_records») (t .index) p s) (roomPart (shape .«header_bytes») (t .headers) p s)
+    (roomPart (shape .«tx_bytes») (t .arenas) p s)
 
 unfoldable pub recAt : Shape → Table → ℕ → Rec
 recAt shape t p =

@@ -82,7 +82,8 @@ module _ (shape : Shape) (t : Table) where
   -- the searches
   pub record-of-is : (peer : ℕ) → recordOf shape (t .numbers) peer ≡ place (isOwn peer) (recsFrom shape t 0 (shape .«max_peers»))
   unfolding recordOf
-  record-of-is peer = search (isOwn peer) (recAt shape t) _ (shape .«max_peers») (λ p l. own-is peer p) ∙ ap (place (isOwn peer)) (sym (recs-tab 0 (shape .«max_peers»)))
+  record-of-is peer =
+      search (isOwn peer) (recAt shape t) _ (shape .«max_peers») (λ p l. own-is peer p) ∙ ap (place (isOwn peer)) (sym (recs-tab 0 (shape .«max_peers»)))
 
   pub record-for-is : (peer : ℕ) → recordFor shape (t .numbers) peer ≡ choose peer (recsFrom shape t 0 (shape .«max_peers»))
   unfolding recordFor
@@ -94,7 +95,8 @@ module _ (shape : Shape) (t : Table) where
 
   pub slot-open-is : (p request-id : ℕ) → slotOpen (t .numbers) p request-id ≡ place (hasId request-id) (recAt shape t p .cells)
   unfolding slotOpen
-  slot-open-is p request-id = search (hasId request-id) (cellAt shape t p) _ 4 (λ s l. has-id-is request-id p s) ∙ ap (place (hasId request-id)) (sym (cells-tab p))
+  slot-open-is p request-id =
+      search (hasId request-id) (cellAt shape t p) _ 4 (λ s l. has-id-is request-id p s) ∙ ap (place (hasId request-id)) (sym (cells-tab p))
 
   pub slot-for-is : (p request-id : ℕ) → slotFor (t .numbers) p request-id ≡ chooseCell request-id (recAt shape t p .cells)
   unfolding slotFor

@@ -72,18 +72,23 @@ module _ (shape : Shape) (t : Table) (numbers′ : List ℕ) where
       → cellAt shape t′ p s ≡ cond b (shut (cellAt shape t p s)) (cellAt shape t p s)
   unfolding cellAt
   cell-closed p s b e =
-      ap (λ (w : List ℕ). cellOf w (roomPart (shape .«fragment_records») (t .index) p s) (roomPart (shape .«header_bytes») (t .headers) p s) (roomPart (shape .«tx_bytes») (t .arenas) p s)) e
+      ap (λ (w : List ℕ). cellOf w (roomPart (shape .«fragment_records») (t .index) p s) (roomPart (shape .«header_bytes») (t .headers) p s)
+      (roomPart (shape .«tx_bytes») (t .arenas) p s)) e
       ∙ go b
     where
       go : (b : Bool) → cellOf (cond b (wordsOf (closed (slotOf (wordsPart (t .numbers) p s)))) (wordsPart (t .numbers) p s))
-          (roomPart (shape .«fragment_records») (t .index) p s) (roomPart (shape .«header_bytes») (t .headers) p s) (roomPart (shape .«tx_bytes») (t .arenas) p s)
-          ≡ cond b (shut (cellOf (wordsPart (t .numbers) p s) (roomPart (shape .«fragment_records») (t .index) p s) (roomPart (shape .«header_bytes») (t .headers) p s) (roomPart (shape .«tx_bytes») (t .arenas) p s)))
-          (cellOf (wordsPart (t .numbers) p s) (roomPart (shape .«fragment_records») (t .index) p s) (roomPart (shape .«header_bytes») (t .headers) p s) (roomPart (shape .«tx_bytes») (t .arenas) p s))
+          (roomPart (shape .«fragment_records») (t .index) p s) (roomPart (shape .«header_bytes») (t .headers) p s)
+          (roomPart (shape .«tx_bytes») (t .arenas) p s)
+          ≡ cond b (shut (cellOf (wordsPart (t .numbers) p s) (roomPart (shape .«fragment_records») (t .index) p s)
+          (roomPart (shape .«header_bytes») (t .headers) p s) (roomPart (shape .«tx_bytes») (t .arenas) p s)))
+          (cellOf (wordsPart (t .numbers) p s) (roomPart (shape .«fragment_records») (t .index) p s) (roomPart (shape .«header_bytes») (t .headers) p s)
+          (roomPart (shape .«tx_bytes») (t .arenas) p s))
       go true = closed-cell _ _ _ _
       go false = refl
 
 -- the value, where only the records differ
-pub value-with : (shape : Shape) (t t′ : Table) {recs : List Rec} → getD (t′ .numbers) 0 0 ≡ getD (t .numbers) 0 0 → recsFrom shape t′ 0 (shape .«max_peers») ≡ recs → valueOf shape t′ ≡ withRecs (valueOf shape t) recs
+pub value-with : (shape : Shape) (t t′ : Table) {recs : List Rec} → getD (t′ .numbers) 0 0 ≡ getD (t .numbers) 0 0
+    → recsFrom shape t′ 0 (shape .«max_peers») ≡ recs → valueOf shape t′ ≡ withRecs (valueOf shape t) recs
 unfolding valueOf
 value-with shape t t′ e f = rw (e, f)
 
@@ -102,7 +107,8 @@ module _ (shape : Shape) (t : Table) (peer request-id : ℕ) (ok : LongFor shape
   change r = withCells r (onFirst (hasId request-id) shut (r .cells))
 
   module _ (p : ℕ) (own : place (isOwn peer) recs ≡ some p) (hp : p < (shape .«max_peers»)) where
-    changed : {cells : List Cell} → onFirst (hasId request-id) shut (recAt shape t p .cells) ≡ cells → onFirst (isOwn peer) change recs ≡ set recs p (withCells (recAt shape t p) cells)
+    changed : {cells : List Cell} → onFirst (hasId request-id) shut (recAt shape t p .cells) ≡ cells
+        → onFirst (isOwn peer) change recs ≡ set recs p (withCells (recAt shape t p) cells)
     changed e =
         first-at (isOwn peer) change noRec recs p own
         ∙ ap (λ (r : Rec). set recs p (change r)) (rec-at shape t (shape .«max_peers») p hp)
@@ -117,7 +123,8 @@ module _ (shape : Shape) (t : Table) (peer request-id : ℕ) (ok : LongFor shape
     unfolding cancelled valueOf
     cancel-in none e =
         let none-there : place (hasId request-id) (recAt shape t p .cells) ≡ none = sym (slot-open-is shape t p request-id) ∙ e in
-        let same : set recs p (recAt shape t p) ≡ recs = ap (λ (r : Rec). set recs p r) (sym (rec-at shape t (shape .«max_peers») p hp)) ∙ set-getD recs p noRec in
+        let same : set recs p (recAt shape t p) ≡ recs =
+        ap (λ (r : Rec). set recs p r) (sym (rec-at shape t (shape .«max_peers») p hp)) ∙ set-getD recs p noRec in
         record {
           value-is = ap (withRecs (valueOf shape t)) (sym (changed (first-none (hasId request-id) shut (recAt shape t p .cells) none-there) ∙ same));
           answer-is = ap granted (sym (named ∙ some-is (hasId request-id) (recAt shape t p .cells) ∙ ap (λ (o : Option ℕ). not (isNone o)) none-there));
@@ -135,7 +142,8 @@ module _ (shape : Shape) (t : Table) (peer request-id : ℕ) (ok : LongFor shape
         let kept : (q : ℕ) → q < (shape .«max_peers») → (q ≡ p → ⊥) → recAt shape new q ≡ recAt shape t q =
         λ q hq d. let w = close-peer shape (t .numbers) h p s hp hs q in rec-kept shape t new q (w .0) (w .1) (λ u hu. other q u hq hu (λ f g. d f)) in
         let cells : recAt shape new p .cells ≡ set (recAt shape t p .cells) s (shut (getD (recAt shape t p .cells) s noCell)) =
-        cells-set shape t new p s hs (λ u hu d. other p u hp hu (λ f g. d g)) ∙ ap (λ (c : Cell). set (recAt shape t p .cells) s c) (here ∙ ap shut (sym (cell-at shape t p s hs))) in
+        cells-set shape t new p s hs (λ u hu d. other p u hp hu (λ f g. d g))
+        ∙ ap (λ (c : Cell). set (recAt shape t p .cells) s c) (here ∙ ap shut (sym (cell-at shape t p s hs))) in
         let w = close-peer shape (t .numbers) h p s hp hs p in
         record {
           value-is =
@@ -152,7 +160,9 @@ module _ (shape : Shape) (t : Table) (peer request-id : ℕ) (ok : LongFor shape
       let nobody : place (isOwn peer) recs ≡ none = sym (record-of-is shape t peer) ∙ e in
       record {
         value-is = ap (withRecs (valueOf shape t)) (sym (first-none (isOwn peer) change recs nobody));
-        answer-is = ap granted (sym (told-none (isOwn peer) (λ (r : Rec). some-cell (hasId request-id) (r .cells)) (cancels peer request-id) (λ r l. refl) recs nobody));
+        answer-is =
+            ap granted (sym (told-none (isOwn peer) (λ (r : Rec). some-cell (hasId request-id) (r .cells)) (cancels peer request-id)
+            (λ r l. refl) recs nobody));
         long = ok;
       }
   cancel-at (some p) e =
@@ -194,14 +204,16 @@ counted shape t p =
         omega (arith, e, f, g)
 
 -- an open cell shut
-open-shut : (shape : Shape) (t : Table) (p s : ℕ) → cond (isActive (t .numbers) p s) (shut (cellAt shape t p s)) (cellAt shape t p s) ≡ shutOpen (cellAt shape t p s)
+open-shut : (shape : Shape) (t : Table) (p s : ℕ)
+    → cond (isActive (t .numbers) p s) (shut (cellAt shape t p s)) (cellAt shape t p s) ≡ shutOpen (cellAt shape t p s)
 open-shut shape t p s = rw (active-is shape t p s) (go (isFree (cellAt shape t p s)))
   where
     go : (b : Bool) → cond (not b) (shut (cellAt shape t p s)) (cellAt shape t p s) ≡ cond b (cellAt shape t p s) (shut (cellAt shape t p s))
     go true = refl
     go false = refl
 
-rec-dropped : (shape : Shape) (t t′ : Table) (p : ℕ) → isBound (t′ .numbers) p ≡ false → getD (t′ .numbers) (peerAt p + 1) 0 ≡ getD (t .numbers) (peerAt p + 1) 0
+rec-dropped : (shape : Shape) (t t′ : Table) (p : ℕ) → isBound (t′ .numbers) p ≡ false
+    → getD (t′ .numbers) (peerAt p + 1) 0 ≡ getD (t .numbers) (peerAt p + 1) 0
     → recAt shape t′ p .cells ≡ map shutOpen (recAt shape t p .cells) → recAt shape t′ p ≡ dropRec (recAt shape t p)
 unfolding recAt
 rec-dropped shape t t′ p e f g = rec-is shape t′ p e f g
@@ -213,7 +225,9 @@ module _ (shape : Shape) (t : Table) (peer : ℕ) (ok : LongFor shape t) where
       let nobody : place (isOwn peer) (recsFrom shape t 0 (shape .«max_peers»)) ≡ none = sym (record-of-is shape t peer) ∙ e in
       record {
         value-is = ap (withRecs (valueOf shape t)) (sym (first-none (isOwn peer) dropRec (recsFrom shape t 0 (shape .«max_peers»)) nobody));
-        answer-is = ap granted (sym (told-none (isOwn peer) (λ (r : Rec). tally (λ (c : Cell). not (isFree c)) (r .cells)) (drops peer) (λ r l. refl) (recsFrom shape t 0 (shape .«max_peers»)) nobody));
+        answer-is =
+            ap granted (sym (told-none (isOwn peer) (λ (r : Rec). tally (λ (c : Cell). not (isFree c)) (r .cells)) (drops peer) (λ r l. refl)
+            (recsFrom shape t 0 (shape .«max_peers»)) nobody));
         long = ok;
       }
   drop-at (some p) e =
@@ -233,11 +247,14 @@ module _ (shape : Shape) (t : Table) (peer : ℕ) (ok : LongFor shape t) where
         value-is =
             value-with shape t new (drop-clock shape (t .numbers) h p hp)
             (recs-set shape t new (shape .«max_peers») p hp kept
-            ∙ ap (λ (r : Rec). set (recsFrom shape t 0 (shape .«max_peers»)) p r) (rec-dropped shape t new p (drop-bound shape (t .numbers) h p hp) (drop-muid-kept shape (t .numbers) h p hp) cells)
-            ∙ sym (first-at (isOwn peer) dropRec noRec (recsFrom shape t 0 (shape .«max_peers»)) p own ∙ ap (λ (r : Rec). set (recsFrom shape t 0 (shape .«max_peers»)) p (dropRec r)) (rec-at shape t (shape .«max_peers») p hp)));
+            ∙ ap (λ (r : Rec). set (recsFrom shape t 0 (shape .«max_peers»)) p r)
+            (rec-dropped shape t new p (drop-bound shape (t .numbers) h p hp) (drop-muid-kept shape (t .numbers) h p hp) cells)
+            ∙ sym (first-at (isOwn peer) dropRec noRec (recsFrom shape t 0 (shape .«max_peers»)) p own
+            ∙ ap (λ (r : Rec). set (recsFrom shape t 0 (shape .«max_peers»)) p (dropRec r)) (rec-at shape t (shape .«max_peers») p hp)));
         answer-is =
             ap granted
-            (sym (told-at (isOwn peer) (λ (r : Rec). tally (λ (c : Cell). not (isFree c)) (r .cells)) (drops peer) (λ r l. refl) (recsFrom shape t 0 (shape .«max_peers»)) p own
+            (sym (told-at (isOwn peer) (λ (r : Rec). tally (λ (c : Cell). not (isFree c)) (r .cells)) (drops peer) (λ r l. refl)
+            (recsFrom shape t 0 (shape .«max_peers»)) p own
             ∙ ap (λ (r : Rec). tally (λ (c : Cell). not (isFree c)) (r .cells)) (rec-at shape t (shape .«max_peers») p hp)
             ∙ counted shape t p));
         long = renumbered-long shape t numbers′ ok (drop-length shape (t .numbers) h p hp);

@@ -41,7 +41,8 @@ module _ (shape : Shape) (t : Table) (out-header out-body : List ℕ) (peer p s 
 
   other-cell : (q u : ℕ) → q < (shape .«max_peers») → u < 4 → (q ≡ p → u ≡ s → ⊥) → cellAt shape t′ q u ≡ cellAt shape t q u
   other-cell q u hq hu d =
-      cell-kept shape t t′ q u (lifted-words-other shape m peer p s a ok size hp hs q u hq hu d) (lifted-index-other shape m peer p s a ok size hp hs q u hq hu d)
+      cell-kept shape t t′ q u (lifted-words-other shape m peer p s a ok size hp hs q u hq hu d)
+      (lifted-index-other shape m peer p s a ok size hp hs q u hq hu d)
       (lifted-header-other shape m peer p s a ok size hp hs q u hq hu d) (lifted-arena-other shape m peer p s a ok size hp hs q u hq hu d)
 
   other-rec : (q : ℕ) → q < (shape .«max_peers») → (q ≡ p → ⊥) → recAt shape t′ q ≡ recAt shape t q
@@ -49,7 +50,8 @@ module _ (shape : Shape) (t : Table) (out-header out-body : List ℕ) (peer p s 
       let e = lifted-peer-other shape m peer p s a ok size hp hs q hq d in
       rec-kept shape t t′ q (e .0) (e .1) (λ u hu. other-cell q u hq hu (λ f g. d f))
 
-  own-rec : recAt shape t′ p ≡ record { bound = true; muid = peer; cells = set (recAt shape t p .cells) s (cellOf (a .words) (a .index) (a .header) (a .arena)) }
+  own-rec : recAt shape t′ p
+      ≡ record { bound = true; muid = peer; cells = set (recAt shape t p .cells) s (cellOf (a .words) (a .index) (a .header) (a .arena)) }
   own-rec =
       rec-is shape t′ p (lifted-bound shape m peer p s a ok size hp hs) (lifted-muid shape m peer p s a ok size hp hs)
       (cells-set shape t t′ p s hs (λ u hu d. other-cell p u hp hu (λ f g. d g)) ∙ ap (λ (c : Cell). set (recAt shape t p .cells) s c) own-cell)
@@ -57,7 +59,9 @@ module _ (shape : Shape) (t : Table) (out-header out-body : List ℕ) (peer p s 
   lifted-value : valueOf shape t′
       ≡ record {
         clock = nextTick (getD (t .numbers) 0 0);
-        recs = set (recsFrom shape t 0 (shape .«max_peers»)) p (record { bound = true; muid = peer; cells = set (recAt shape t p .cells) s (cellOf (a .words) (a .index) (a .header) (a .arena)) });
+        recs =
+            set (recsFrom shape t 0 (shape .«max_peers»)) p
+            (record { bound = true; muid = peer; cells = set (recAt shape t p .cells) s (cellOf (a .words) (a .index) (a .header) (a .arena)) });
       }
   unfolding valueOf
   lifted-value =
@@ -81,7 +85,8 @@ pub record FeedValue (shape : Shape) (out-header out-body : List ℕ) (taken : T
 
 module _ (shape : Shape) (t : Table) (out-header out-body : List ℕ) (peer : ℕ) (c : Chunk) (now-ms : ℕ) (ok : LongFor shape t)
     (sound : SlotsSound shape (t .numbers) (t .index))
-    (header-room : shape .«header_bytes» ≤ length out-header) (body-room : shape .«tx_bytes» ≤ length out-body) (short : length (c .property) ≤ 16383) (named : c .chunk-num < 65536) where
+    (header-room : shape .«header_bytes» ≤ length out-header) (body-room : shape .«tx_bytes» ≤ length out-body) (short : length (c .property) ≤ 16383)
+    (named : c .chunk-num < 65536) where
   abbrev m₀ : Memory
   m₀ = lent t out-header out-body
 
@@ -90,11 +95,15 @@ module _ (shape : Shape) (t : Table) (out-header out-body : List ℕ) (peer : �
 
   module _ (p s : ℕ) (hp : p < (shape .«max_peers»)) (hs : s < 4) where
     abbrev a : After
-    a = feedSlot (wordsPart (t .numbers) p s) (roomPart (shape .«fragment_records») (t .index) p s) (roomPart (shape .«header_bytes») (t .headers) p s) (roomPart (shape .«tx_bytes») (t .arenas) p s)
+    a =
+        feedSlot (wordsPart (t .numbers) p s) (roomPart (shape .«fragment_records») (t .index) p s) (roomPart (shape .«header_bytes») (t .headers) p s)
+        (roomPart (shape .«tx_bytes») (t .arenas) p s)
         c now-ms (nextTick (getD (t .numbers) 0 0)) out-header out-body
 
     abbrev cell : Cell
-    cell = cellOf (wordsPart (t .numbers) p s) (roomPart (shape .«fragment_records») (t .index) p s) (roomPart (shape .«header_bytes») (t .headers) p s) (roomPart (shape .«tx_bytes») (t .arenas) p s)
+    cell =
+        cellOf (wordsPart (t .numbers) p s) (roomPart (shape .«fragment_records») (t .index) p s) (roomPart (shape .«header_bytes») (t .headers) p s)
+        (roomPart (shape .«tx_bytes») (t .arenas) p s)
 
     abbrev told : Judged
     told = judged shape (touchedAt (cell .state) now-ms) c
@@ -106,7 +115,8 @@ module _ (shape : Shape) (t : Table) (out-header out-body : List ℕ) (peer : �
     told-is : told ≡ judged shape (touchedAt (getD (recAt shape t p .cells) s noCell .state) now-ms) c
     told-is = ap (λ (x : Cell). judged shape (touchedAt (x .state) now-ms) c) (sym cell-is)
 
-    sized : Sized shape (wordsPart (t .numbers) p s) (roomPart (shape .«fragment_records») (t .index) p s) (roomPart (shape .«header_bytes») (t .headers) p s) (roomPart (shape .«tx_bytes») (t .arenas) p s)
+    sized : Sized shape (wordsPart (t .numbers) p s) (roomPart (shape .«fragment_records») (t .index) p s) (roomPart (shape .«header_bytes») (t .headers) p s)
+        (roomPart (shape .«tx_bytes») (t .arenas) p s)
     sized =
         record {
           words-size = words-length shape m₀ p s ok hp hs;
@@ -123,12 +133,17 @@ module _ (shape : Shape) (t : Table) (out-header out-body : List ℕ) (peer : �
     unfolding lifted takeCell valueOf
     there =
         let size : AfterSized shape a = fed-sized shape m₀ p s ok hp hs c now-ms (nextTick (getD (t .numbers) 0 0)) out-header out-body in
-        let o = fed-told shape _ _ _ _ c now-ms (nextTick (getD (t .numbers) 0 0)) out-header out-body (in-range shape (t .numbers) (numbers-asked shape t ok)) sized (sound .each p s hp hs) header-room body-room short named in
-        let q = fed-cell shape _ _ _ _ c now-ms (nextTick (getD (t .numbers) 0 0)) out-header out-body (in-range shape (t .numbers) (numbers-asked shape t ok)) sized (sound .each p s hp hs) header-room body-room short named in
+        let o = fed-told shape _ _ _ _ c now-ms (nextTick (getD (t .numbers) 0 0)) out-header out-body
+        (in-range shape (t .numbers) (numbers-asked shape t ok)) sized (sound .each p s hp hs) header-room body-room short named in
+        let q = fed-cell shape _ _ _ _ c now-ms (nextTick (getD (t .numbers) 0 0)) out-header out-body
+        (in-range shape (t .numbers) (numbers-asked shape t ok)) sized (sound .each p s hp hs) header-room body-room short named in
         record {
           value-is =
               lifted-value shape t out-header out-body peer p s a ok size hp hs
-              ∙ ap (λ (x : Cell). record { clock = nextTick (getD (t .numbers) 0 0); recs = set (recsFrom shape t 0 (shape .«max_peers»)) p (record { bound = true; muid = peer; cells = set (recAt shape t p .cells) s x }) })
+              ∙ ap (λ (x : Cell). record {
+                clock = nextTick (getD (t .numbers) 0 0);
+                recs = set (recsFrom shape t 0 (shape .«max_peers»)) p (record { bound = true; muid = peer; cells = set (recAt shape t p .cells) s x });
+              })
               (q ∙ ap (λ (j : Judged). cellWith (nextTick (getD (t .numbers) 0 0)) (c .request-id) (j .left)) told-is);
           answer-is = o .0 ∙ ap (λ (j : Judged). toldAnswer (j .answer)) told-is;
           out-header-is = o .1 ∙ ap (λ (j : Judged). outHeader (j .answer) out-header) told-is;
@@ -152,12 +167,15 @@ module _ (shape : Shape) (t : Table) (out-header out-body : List ℕ) (peer : �
   in-record (some p) e =
       let hp = record-for-below shape (t .numbers) peer p e in
       let r : Fed = inSlot (slotFor (t .numbers) p (c .request-id)) shape m₀ peer c now-ms p in
-      subst (λ (x : Rec). FeedValue shape out-header out-body (takeRec shape v peer c now-ms p x (chooseCell (c .request-id) (x .cells))) r) (sym (rec-at shape t (shape .«max_peers») p hp))
-      (subst (λ (o : Option ℕ). FeedValue shape out-header out-body (takeRec shape v peer c now-ms p (recAt shape t p) o) r) (slot-for-is shape t p (c .request-id))
+      subst (λ (x : Rec). FeedValue shape out-header out-body (takeRec shape v peer c now-ms p x (chooseCell (c .request-id) (x .cells))) r)
+      (sym (rec-at shape t (shape .«max_peers») p hp))
+      (subst (λ (o : Option ℕ). FeedValue shape out-header out-body (takeRec shape v peer c now-ms p (recAt shape t p) o) r)
+      (slot-for-is shape t p (c .request-id))
       (in-slot p hp (slotFor (t .numbers) p (c .request-id)) refl))
 
   pub feed-value : FeedValue shape out-header out-body (takes shape v peer c now-ms) (atTable shape m₀ peer c now-ms)
   unfolding takes atTable valueOf
   feed-value =
-      subst (λ (o : Option ℕ). FeedValue shape out-header out-body (takeAt shape v peer c now-ms o) (inRecord (recordFor shape (t .numbers) peer) shape m₀ peer c now-ms))
+      subst (λ (o : Option ℕ). FeedValue shape out-header out-body (takeAt shape v peer c now-ms o)
+      (inRecord (recordFor shape (t .numbers) peer) shape m₀ peer c now-ms))
       (record-for-is shape t peer) (in-record (recordFor shape (t .numbers) peer) refl)

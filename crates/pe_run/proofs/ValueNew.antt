@@ -24,7 +24,8 @@ module _ (shape : Shape) (t : Table) (ok : LongFor shape t) where
   new-cell : (p s : ℕ) → p < (shape .«max_peers») → s < 4 → cellAt shape (made shape t) p s ≡ noCell
   unfolding cellAt
   new-cell p s hp hs =
-      ap (λ (w : List ℕ). cellOf w (roomPart (shape .«fragment_records») (made shape t .index) p s) (roomPart (shape .«header_bytes») (t .headers) p s) (roomPart (shape .«tx_bytes») (t .arenas) p s))
+      ap (λ (w : List ℕ). cellOf w (roomPart (shape .«fragment_records») (made shape t .index) p s) (roomPart (shape .«header_bytes») (t .headers) p s)
+      (roomPart (shape .«tx_bytes») (t .arenas) p s))
       (new-words shape (t .numbers) (t .index) (t .headers) (t .arenas) ok p s hp hs)
       ∙ zero-cell _ _ _
 
@@ -39,7 +40,8 @@ module _ (shape : Shape) (t : Table) (ok : LongFor shape t) where
   new-value =
       ap₂ (λ (clock : ℕ) (recs : List Rec). record { clock = clock; recs = recs })
       (new-clock shape (t .numbers) (t .index) (t .headers) (t .arenas) ok)
-      (recs-tab shape (made shape t) 0 (shape .«max_peers») ∙ tab-replicate (recAt shape (made shape t)) noRec 0 (shape .«max_peers») (λ p hp. new-rec p (omega arith)))
+      (recs-tab shape (made shape t) 0 (shape .«max_peers»)
+      ∙ tab-replicate (recAt shape (made shape t)) noRec 0 (shape .«max_peers») (λ p hp. new-rec p (omega arith)))
 
   pub new-long : LongFor shape (made shape t)
   unfolding hasRooms hasNumbers

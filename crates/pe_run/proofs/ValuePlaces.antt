@@ -20,10 +20,12 @@ pub rec-at : (shape : Shape) (t : Table) (n p : ℕ) → p < n → getD (recsFro
 rec-at shape t n p l = ap (λ (x : List Rec). getD x p noRec) (recs-tab shape t 0 n) ∙ tab-at (recAt shape t) 0 n p noRec l ∙ ap (recAt shape t) (zero-add p)
 
 pub cell-at : (shape : Shape) (t : Table) (p s : ℕ) → s < 4 → getD (recAt shape t p .cells) s noCell ≡ cellAt shape t p s
-cell-at shape t p s l = ap (λ (x : List Cell). getD x s noCell) (cells-tab shape t p) ∙ tab-at (cellAt shape t p) 0 4 s noCell l ∙ ap (cellAt shape t p) (zero-add s)
+cell-at shape t p s l =
+    ap (λ (x : List Cell). getD x s noCell) (cells-tab shape t p) ∙ tab-at (cellAt shape t p) 0 4 s noCell l ∙ ap (cellAt shape t p) (zero-add s)
 
 -- a record by its parts
-pub rec-is : (shape : Shape) (t : Table) (p : ℕ) {b : Bool} {muid : ℕ} {cells : List Cell} → isBound (t .numbers) p ≡ b → getD (t .numbers) (peerAt p + 1) 0 ≡ muid → recAt shape t p .cells ≡ cells
+pub rec-is : (shape : Shape) (t : Table) (p : ℕ) {b : Bool} {muid : ℕ} {cells : List Cell} → isBound (t .numbers) p ≡ b
+    → getD (t .numbers) (peerAt p + 1) 0 ≡ muid → recAt shape t p .cells ≡ cells
     → recAt shape t p ≡ record { bound = b; muid = muid; cells = cells }
 unfolding recAt
 rec-is shape t p e f g = rw (e, f, g)
@@ -34,28 +36,33 @@ cell-same a b c d = rw (a, b, c, d)
 
 module _ (shape : Shape) (t t′ : Table) where
   -- a slot whose parts are as they were
-  pub cell-kept : (p s : ℕ) → wordsPart (t′ .numbers) p s ≡ wordsPart (t .numbers) p s → roomPart (shape .«fragment_records») (t′ .index) p s ≡ roomPart (shape .«fragment_records») (t .index) p s
-      → roomPart (shape .«header_bytes») (t′ .headers) p s ≡ roomPart (shape .«header_bytes») (t .headers) p s → roomPart (shape .«tx_bytes») (t′ .arenas) p s ≡ roomPart (shape .«tx_bytes») (t .arenas) p s
+  pub cell-kept : (p s : ℕ) → wordsPart (t′ .numbers) p s ≡ wordsPart (t .numbers) p s
+      → roomPart (shape .«fragment_records») (t′ .index) p s ≡ roomPart (shape .«fragment_records») (t .index) p s
+      → roomPart (shape .«header_bytes») (t′ .headers) p s ≡ roomPart (shape .«header_bytes») (t .headers) p s
+      → roomPart (shape .«tx_bytes») (t′ .arenas) p s ≡ roomPart (shape .«tx_bytes») (t .arenas) p s
       → cellAt shape t′ p s ≡ cellAt shape t p s
   unfolding cellAt
   cell-kept p s a b c d = cell-same a b c d
 
   -- the cells of a record
-  pub cells-set : (p s : ℕ) → s < 4 → ((u : ℕ) → u < 4 → (u ≡ s → ⊥) → cellAt shape t′ p u ≡ cellAt shape t p u) → recAt shape t′ p .cells ≡ set (recAt shape t p .cells) s (cellAt shape t′ p s)
+  pub cells-set : (p s : ℕ) → s < 4 → ((u : ℕ) → u < 4 → (u ≡ s → ⊥) → cellAt shape t′ p u ≡ cellAt shape t p u)
+      → recAt shape t′ p .cells ≡ set (recAt shape t p .cells) s (cellAt shape t′ p s)
   cells-set p s l h =
       let z : 0 + s ≡ s = zero-add s in
       cells-tab shape t′ p
       ∙ tab-set (cellAt shape t p) (cellAt shape t′ p) 0 4 s l (λ u a b n. h u b (λ e. n (e ∙ sym z)))
       ∙ ap₂ (λ (cells : List Cell) (u : ℕ). set cells s (cellAt shape t′ p u)) (sym (cells-tab shape t p)) z
 
-  pub cells-map : (p : ℕ) (g : Cell → Cell) → ((u : ℕ) → u < 4 → cellAt shape t′ p u ≡ g (cellAt shape t p u)) → recAt shape t′ p .cells ≡ map g (recAt shape t p .cells)
+  pub cells-map : (p : ℕ) (g : Cell → Cell) → ((u : ℕ) → u < 4 → cellAt shape t′ p u ≡ g (cellAt shape t p u))
+      → recAt shape t′ p .cells ≡ map g (recAt shape t p .cells)
   cells-map p g h =
       cells-tab shape t′ p
       ∙ tab-map (cellAt shape t p) (cellAt shape t′ p) g 0 4 h
       ∙ ap (map g) (sym (cells-tab shape t p))
 
   -- the records
-  pub rec-cells : (p : ℕ) {cells : List Cell} → isBound (t′ .numbers) p ≡ isBound (t .numbers) p → getD (t′ .numbers) (peerAt p + 1) 0 ≡ getD (t .numbers) (peerAt p + 1) 0
+  pub rec-cells : (p : ℕ) {cells : List Cell} → isBound (t′ .numbers) p ≡ isBound (t .numbers) p
+      → getD (t′ .numbers) (peerAt p + 1) 0 ≡ getD (t .numbers) (peerAt p + 1) 0
       → recAt shape t′ p .cells ≡ cells → recAt shape t′ p ≡ withCells (recAt shape t p) cells
   unfolding recAt
   rec-cells p e f g = rec-is shape t′ p e f g
@@ -65,7 +72,8 @@ module _ (shape : Shape) (t t′ : Table) where
   rec-kept p e f h = rec-cells p e f (cells-tab shape t′ p ∙ tab-same (cellAt shape t′ p) (cellAt shape t p) 0 4 (λ u a b. h u b) ∙ sym (cells-tab shape t p))
 
   module _ (n : ℕ) where
-    pub recs-set : (p : ℕ) → p < n → ((q : ℕ) → q < n → (q ≡ p → ⊥) → recAt shape t′ q ≡ recAt shape t q) → recsFrom shape t′ 0 n ≡ set (recsFrom shape t 0 n) p (recAt shape t′ p)
+    pub recs-set : (p : ℕ) → p < n → ((q : ℕ) → q < n → (q ≡ p → ⊥) → recAt shape t′ q ≡ recAt shape t q)
+        → recsFrom shape t′ 0 n ≡ set (recsFrom shape t 0 n) p (recAt shape t′ p)
     recs-set p l h =
         let z : 0 + p ≡ p = zero-add p in
         recs-tab shape t′ 0 n

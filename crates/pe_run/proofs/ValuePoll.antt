@@ -25,7 +25,8 @@ use Rattle.pe_run.proofs.ValuePlaces.{rec-cells, cells-map, recs-map}
 use Rattle.pe_run.proofs.ValueCalls.{renumbered-long, cell-closed, value-with}
 
 -- a slot is due as its cell is late
-late-is : (words index header arena : List ℕ) (now-ms : ℕ) → (not (eqb (getD words 0 0) 0) && leb 3000 (now-ms - getD words 2 0)) ≡ lateState now-ms (cellOf words index header arena .state)
+late-is : (words index header arena : List ℕ) (now-ms : ℕ)
+    → (not (eqb (getD words 0 0) 0) && leb 3000 (now-ms - getD words 2 0)) ≡ lateState now-ms (cellOf words index header arena .state)
 unfolding cellOf
 late-is words index header arena now-ms = go (eqb (getD words 0 0) 0) (record { time = getD words 2 0; slot = contents (slotOf words) index header arena })
   where
@@ -61,14 +62,21 @@ module _ (shape : Shape) (t : Table) (now-ms : ℕ) (out-peers out-ids : List �
 
   closed-value : valueOf shape new ≡ polled (valueOf shape t) now-ms
   unfolding polled valueOf
-  closed-value = value-with shape t new (due-clock shape (t .numbers) (numbers-long shape (t .numbers) (numbers-asked shape t ok) .1) now-ms) (recs-map shape t new (shape .«max_peers») (pollRec now-ms) rec-polled)
+  closed-value =
+      value-with shape t new (due-clock shape (t .numbers) (numbers-long shape (t .numbers) (numbers-asked shape t ok) .1) now-ms)
+      (recs-map shape t new (shape .«max_peers») (pollRec now-ms) rec-polled)
 
-  pub poll-value : (hasPlaces (shape .«max_peers») out-peers && hasPlaces (shape .«max_peers») out-ids) ≡ true → PollValue shape t now-ms (pollCall shape (t .numbers) now-ms out-peers out-ids)
+  pub poll-value : (hasPlaces (shape .«max_peers») out-peers && hasPlaces (shape .«max_peers») out-ids) ≡ true
+      → PollValue shape t now-ms (pollCall shape (t .numbers) now-ms out-peers out-ids)
   unfolding pollCall
   poll-value e =
       rw (numbers-asked shape t ok, e)
-      (record { value-is = closed-value; long = renumbered-long shape t numbers′ ok (due-length shape (t .numbers) (numbers-long shape (t .numbers) (numbers-asked shape t ok) .1) now-ms) })
+      (record {
+        value-is = closed-value;
+        long = renumbered-long shape t numbers′ ok (due-length shape (t .numbers) (numbers-long shape (t .numbers) (numbers-asked shape t ok) .1) now-ms);
+      })
 
-  pub poll-refused : (hasPlaces (shape .«max_peers») out-peers && hasPlaces (shape .«max_peers») out-ids) ≡ false → pollCall shape (t .numbers) now-ms out-peers out-ids ≡ polledInto (refused 30 0) (t .numbers) out-peers out-ids
+  pub poll-refused : (hasPlaces (shape .«max_peers») out-peers && hasPlaces (shape .«max_peers») out-ids) ≡ false
+      → pollCall shape (t .numbers) now-ms out-peers out-ids ≡ polledInto (refused 30 0) (t .numbers) out-peers out-ids
   unfolding pollCall
   poll-refused e = rw (numbers-asked shape t ok, e)

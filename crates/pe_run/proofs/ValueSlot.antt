@@ -43,7 +43,8 @@ unfolding isSound
 halves H B R t index e = and-told (laid H B R t index) (unheld t) e
 
 -- a sound slot is sound when it is touched
-touched-sound : (H B R : ℕ) (t : TxSlot) (index : List ℕ) (request-id now-ms tick : ℕ) → isSound H B R t index ≡ true → isSound H B R (touched t request-id now-ms tick) index ≡ true
+touched-sound : (H B R : ℕ) (t : TxSlot) (index : List ℕ) (request-id now-ms tick : ℕ) → isSound H B R t index ≡ true
+    → isSound H B R (touched t request-id now-ms tick) index ≡ true
 unfolding isSound
 touched-sound H B R t index request-id now-ms tick e =
     let p : laid H B R t index ≡ true = halves H B R t index e .0 in
@@ -56,10 +57,12 @@ pub record Sized (shape : Shape) (words index header arena : List ℕ) : Type 0 
   pub header-size : length header ≡ shape .«header_bytes»
   pub arena-size : length arena ≡ shape .«tx_bytes»
 
-module _ (shape : Shape) (words index header arena : List ℕ) (neat : SlotSound (shape .«header_bytes») (shape .«tx_bytes») (shape .«fragment_records») words index) where
+module _ (shape : Shape) (words index header arena : List ℕ)
+    (neat : SlotSound (shape .«header_bytes») (shape .«tx_bytes») (shape .«fragment_records») words index) where
   no-records : eqb (getD words 0 0) 0 ≡ true → getD words 7 0 ≡ 0
   no-records e =
-      let p : unheld (slotOf words) ≡ true = halves (shape .«header_bytes») (shape .«tx_bytes») (shape .«fragment_records») (slotOf words) index (neat .sound) .1 in
+      let p : unheld (slotOf words) ≡ true =
+      halves (shape .«header_bytes») (shape .«tx_bytes») (shape .«fragment_records») (slotOf words) index (neat .sound) .1 in
       let q : (eqb (getD words 6 0) 0 && eqb (getD words 7 0) 0) ≡ true = rw e at p in
       eqb-true _ _ (and-told (eqb (getD words 6 0) 0) (eqb (getD words 7 0) 0) q .1)
 
@@ -70,7 +73,8 @@ module _ (shape : Shape) (words index header arena : List ℕ) (neat : SlotSound
       rw (b .1, b .0, no-records e)
 
   -- what a slot holds is what its cell is opened with
-  held-slot : (now-ms : ℕ) → touchedAt (cellOf words index header arena .state) now-ms ≡ record { time = now-ms; slot = contents (slotOf words) index header arena }
+  held-slot : (now-ms : ℕ)
+      → touchedAt (cellOf words index header arena .state) now-ms ≡ record { time = now-ms; slot = contents (slotOf words) index header arena }
   unfolding cellOf
   held-slot now-ms = go (both (eqb (getD words 0 0) 0))
     where
@@ -96,8 +100,10 @@ cell-left false t c v request-id now-ms tick index header arena s e = rw (opened
 
 -- what a feed leaves
 module _ (shape : Shape) (words index header arena : List ℕ) (c : Chunk) (now-ms tick : ℕ) (out-header out-body : List ℕ)
-    (range : Ranges shape) (size : Sized shape words index header arena) (neat : SlotSound (shape .«header_bytes») (shape .«tx_bytes») (shape .«fragment_records») words index)
-    (header-room : shape .«header_bytes» ≤ length out-header) (body-room : shape .«tx_bytes» ≤ length out-body) (short : length (c .property) ≤ 16383) (named : c .chunk-num < 65536) where
+    (range : Ranges shape) (size : Sized shape words index header arena)
+    (neat : SlotSound (shape .«header_bytes») (shape .«tx_bytes») (shape .«fragment_records») words index)
+    (header-room : shape .«header_bytes» ≤ length out-header) (body-room : shape .«tx_bytes» ≤ length out-body) (short : length (c .property) ≤ 16383)
+    (named : c .chunk-num < 65536) where
   abbrev held : Slot
   held = contents (slotOf words) index header arena
 
@@ -113,20 +119,36 @@ module _ (shape : Shape) (words index header arena : List ℕ) (c : Chunk) (now-
   fed-is : fed ≡ left
   unfolding feedSlot isShaped
   fed-is =
-      rw (size .words-size, size .index-size, size .header-size, size .arena-size, neat .sound, le-leb _ _ (range .records), le-leb _ _ (range .header), le-leb _ _ (range .body), le-leb _ _ header-room, le-leb _ _ body-room, le-leb _ _ short)
+      rw (
+        size .words-size,
+        size .index-size,
+        size .header-size,
+        size .arena-size,
+        neat .sound,
+        le-leb _ _ (range .records),
+        le-leb _ _ (range .header),
+        le-leb _ _ (range .body),
+        le-leb _ _ header-room,
+        le-leb _ _ body-room,
+        le-leb _ _ short,
+      )
 
   follows : verdict .closes ≡ false → contents (slotOf (left .words)) (left .index) (left .header) (left .arena) ≡ slotAfter held c verdict
   unfolding contents
   follows q =
       let e : isSound (length header) (length arena) (length index) (touched (slotOf words) (c .request-id) now-ms tick) index ≡ true =
-      rw (size .index-size, size .header-size, size .arena-size) (touched-sound (shape .«header_bytes») (shape .«tx_bytes») (shape .«fragment_records») (slotOf words) index (c .request-id) now-ms tick (neat .sound)) in
+      rw (size .index-size, size .header-size, size .arena-size)
+      (touched-sound (shape .«header_bytes») (shape .«tx_bytes») (shape .«fragment_records») (slotOf words) index (c .request-id) now-ms tick (neat .sound)) in
       let f = memory-follows (touched (slotOf words) (c .request-id) now-ms tick) index header arena c out-header out-body e short named in
       let g = rw (size .index-size, size .header-size, size .arena-size) at f in
       g q
 
-  left-cell : cellOf (left .words) (left .index) (left .header) (left .arena) ≡ cellWith tick (c .request-id) (judged shape (record { time = now-ms; slot = held }) c .left)
+  left-cell : cellOf (left .words) (left .index) (left .header) (left .arena) ≡ cellWith tick (c .request-id)
+      (judged shape (record { time = now-ms; slot = held }) c .left)
   unfolding judged placed
-  left-cell = cell-left (verdict .closes) (slotOf words) c verdict (c .request-id) now-ms tick (left .index) (left .header) (left .arena) (slotAfter held c verdict) follows
+  left-cell =
+      cell-left (verdict .closes) (slotOf words) c verdict (c .request-id) now-ms tick (left .index) (left .header) (left .arena)
+      (slotAfter held c verdict) follows
 
   -- the cell after it, the answer and the outputs
   abbrev told : Judged
@@ -141,7 +163,8 @@ module _ (shape : Shape) (words index header arena : List ℕ) (c : Chunk) (now-
       ∙ left-cell
       ∙ ap (λ (j : Judged). cellWith tick (c .request-id) (j .left)) (sym told-is)
 
-  pub fed-told : (fed .answer ≡ toldAnswer (told .answer)) × (fed .out-header ≡ outHeader (told .answer) out-header) × (fed .out-body ≡ outBody (told .answer) out-body)
+  pub fed-told : (fed .answer ≡ toldAnswer (told .answer)) × (fed .out-header ≡ outHeader (told .answer) out-header) ×
+      (fed .out-body ≡ outBody (told .answer) out-body)
   unfolding judged placed
   fed-told = (
     ap (λ (x : After). x .answer) fed-is ∙ ap (λ (j : Judged). toldAnswer (j .answer)) (sym told-is),
