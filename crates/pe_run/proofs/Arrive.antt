@@ -1,20 +1,20 @@
 -- What is open under a peer and request id, through what happens to the model.
 -- Assumes nothing.
-use Prim.Native.Nat.{ℕ, _-_, _≤_}
-use mathlib.Core.Bool.{Bool, true, false, cond, not, _&&_}
+use Prim.Native.Nat.{ℕ, _-_, _≤_, _<_}
+use mathlib.Core.Bool.{Bool, true, false, cond, not, _&&_, _||_, or-true}
 use mathlib.Core.List.{List, [], _∷_, _++_}
 use mathlib.Core.Logic.{_⊎_, inl, inr}
 use mathlib.Core.Option.{Option, none, some}
 use mathlib.Core.Path.{_≡_, refl, sym, ap, _∙_}
 use native.Mathlib.Omega.{arith}
-use borrow.Author.Tests.{eqb-true, ne-eqb, lt-leb}
-use lib.Dec.{leb, eqb}
+use borrow.Author.Tests.{eqb-true, ne-eqb, lt-leb, lt-ltb}
+use lib.Dec.{leb, ltb, eqb}
 use Rattle.seven_bit.specs.Reply.{refused}
 use Rattle.seven_bit.proofs.ReplyLaws.{both, and-told}
 use Rattle.pe_frame.specs.Chunk.{Chunk}
 use Rattle.pe_reassembler.specs.declared.shape.Shape.{Shape}
 use Rattle.pe_run.specs.Lists.{keep}
-use Rattle.pe_run.specs.Model.{Open, Entry, Model, isAt, isOf, isLate, find, openOf, findsRecord, hasFour, touchedAt, judged, entryOf, without, arrived, arrives, Act, arrive, cancel, drop, poll, nothing, acted}
+use Rattle.pe_run.specs.Model.{Open, Entry, Model, isAt, isOf, isLate, find, isNone, openOf, peersOpen, findsRecord, hasFour, touchedAt, judged, entryOf, without, arrived, arrives, Act, arrive, cancel, drop, poll, nothing, acted}
 use Rattle.pe_run.specs.Demand.{Room, Spared}
 use Rattle.pe_run.proofs.ListLaws.{eqb-self, eqb-sym, never}
 
@@ -42,19 +42,35 @@ find-tally peer request-id (e ∷ b) o q = go (both (eqb peer (e .peer))) (find-
     go (inl a) r = rw a (omega arith)
     go (inr a) r = rw a (r (rw a at q))
 
+-- ---- does the peer find a record?
+pub finds-open : (n peer : ℕ) (b : Model) → 1 ≤ openOf peer b → findsRecord n peer b ≡ true
+unfolding findsRecord
+finds-open n peer b h = ap (λ (none-open : Bool). not none-open || ltb (peersOpen b) n) (ne-eqb (openOf peer b) 0 (omega arith))
+
+pub finds-fewer : (n peer : ℕ) (b : Model) → peersOpen b < n → findsRecord n peer b ≡ true
+unfolding findsRecord
+finds-fewer n peer b h =
+    ap (λ (fewer : Bool). not (eqb (openOf peer b) 0) || fewer) (lt-ltb (peersOpen b) n h) ∙ or-true (not (eqb (openOf peer b) 0))
+
 -- ---- an arrival at what is open, and one that opens
 pub arrive-open : (shape : Shape) (peer : ℕ) (b : Model) (o : Open) (c : Chunk) (now-ms : ℕ) → find peer (c .request-id) b ≡ some o
     → arrives shape b peer c now-ms ≡ arrived peer (c .request-id) b (judged shape (touchedAt (some o) now-ms) c)
-unfolding arrives findsRecord hasFour
-arrive-open shape peer b o c now-ms q = rw (ne-eqb (openOf peer b) 0 (omega (arith, find-tally peer (c .request-id) b o q)), q) refl
+unfolding arrives hasFour
+arrive-open shape peer b o c now-ms q =
+    let found : findsRecord (shape .«max_peers») peer b ≡ true = finds-open (shape .«max_peers») peer b (find-tally peer (c .request-id) b o q) in
+    rw (found, q) refl
+
+room-free : (peer request-id : ℕ) (b : Model) → find peer request-id b ≡ none → openOf peer b < 4 → hasFour peer request-id b ≡ false
+unfolding hasFour
+room-free peer request-id b free h = ap (λ (o : Option Open). isNone o && leb 4 (openOf peer b)) free ∙ lt-leb 4 (openOf peer b) h
 
 pub arrive-new : (shape : Shape) (peer : ℕ) (b : Model) (c : Chunk) (now-ms : ℕ) → Room (shape .«max_peers») peer (c .request-id) b
     → arrives shape b peer c now-ms ≡ arrived peer (c .request-id) b (judged shape (touchedAt none now-ms) c)
-unfolding arrives hasFour
+unfolding arrives
 arrive-new shape peer b c now-ms r =
     let found : findsRecord (shape .«max_peers») peer b ≡ true = r .record-found in
     let free : find peer (c .request-id) b ≡ none = r .not-open in
-    rw (found, free, lt-leb 4 (openOf peer b) (r .fewer)) refl
+    rw (found, room-free peer (c .request-id) b free (r .fewer), free) refl
 
 -- what stays open is found
 pub find-arrived : (peer request-id : ℕ) (b : Model) (o : Open) → find peer request-id (entryOf peer request-id (some o) ++ without peer request-id b) ≡ some o

@@ -1,14 +1,13 @@
 -- A chunk, on the value of a table and on the model.
 -- Assumes nothing.
-use Prim.Native.Nat.{ℕ, _≤_, _<_}
-use mathlib.Core.Bool.{Bool, true, false, not, or-true}
+use Prim.Native.Nat.{ℕ, _≤_}
+use mathlib.Core.Bool.{Bool, true, false}
 use mathlib.Core.List.{List, [], _∷_, _++_}
 use mathlib.Core.Logic.{_⊎_, inl, inr}
 use mathlib.Core.Option.{Option, none, some}
 use mathlib.Core.Path.{_≡_, refl, sym, ap, ap₂, _∙_, subst}
 use native.Mathlib.Omega.{arith}
-use borrow.Author.Tests.{lt-ltb, le-ltb, le-leb, ne-eqb, not-true}
-use lib.Dec.{eqb}
+use borrow.Author.Tests.{le-ltb, le-leb, not-true}
 use lib.ListN.{length, set}
 use Rattle.seven_bit.specs.Reply.{refused}
 use Rattle.seven_bit.proofs.ReplyLaws.{both, and-told}
@@ -22,21 +21,13 @@ use Rattle.pe_run.specs.Demand.{Room}
 use Rattle.pe_run.proofs.ListLaws.{NoneOf, all-first, all-second, tally-all}
 use Rattle.pe_run.proofs.PermLaws.{perm-sym}
 use Rattle.pe_run.proofs.ModelLaws.{without-none}
-use Rattle.pe_run.proofs.Arrive.{arrive-open, arrive-new}
+use Rattle.pe_run.proofs.Arrive.{finds-open, finds-fewer, arrive-open, arrive-new}
 use Rattle.pe_run.proofs.Value.{Cell, Rec, Value, noCell, noRec, every, isFree, hasId, isOwn, isUnbound, isIdle, choose, chooseCell, cellOpen, cellsOpen, recsOpen, opens, Taken, cellWith, takeCell, takeRec, takeAt, takes}
 use Rattle.pe_run.proofs.Places.{Split, view, place-absent, split-place, split-getD, split-set, split-hit, split-short}
 use Rattle.pe_run.proofs.Records.{away-tally, away-find, free-none, free-open, isUsed, used-some, Apart, Tidy, apart-away, tidy-second, isBusy}
 use Rattle.pe_run.proofs.Refine.{FourCells, Rel, tally-is, find-is, peers-are, own-muid, own-after, own-find, own-tally, rest, putCell, here-open, put-rel, own-open}
 
 -- ---- does the peer find a record?
-finds-open : (n peer : ℕ) (b : Model) → 1 ≤ openOf peer b → findsRecord n peer b ≡ true
-unfolding findsRecord
-finds-open n peer b h = rw (ne-eqb (openOf peer b) 0 (omega arith))
-
-finds-fewer : (n peer : ℕ) (b : Model) → peersOpen b < n → findsRecord n peer b ≡ true
-unfolding findsRecord
-finds-fewer n peer b h = rw (lt-ltb (peersOpen b) n h) (or-true (not (eqb (openOf peer b) 0)))
-
 finds-idle : {n : ℕ} {v : Value} {b : Model} → Rel n v b → (peer : ℕ) {test : Rec → Bool} (s : Split test (v .recs)) → isIdle (s .hit) ≡ true
     → findsRecord n peer b ≡ true
 finds-idle {n} {v} {b} rel peer s h = finds-fewer n peer b (omega (arith, peers-are rel, split-short s isBusy (rw h), rel .size))
