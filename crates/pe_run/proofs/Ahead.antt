@@ -1,6 +1,6 @@
 -- The questions that are asked ahead of **Table**'s: of memory that is long enough, those of the calls and of the run are the same.
 -- Assumes nothing.
-use Prim.Native.Nat.{ℕ, _*_, _≤_}
+use Prim.Native.Nat.{ℕ, _+_, _*_, _≤_}
 use mathlib.Core.Bool.{Bool, true, false, cond, _&&_}
 use mathlib.Core.List.{List, [], _++_, map}
 use mathlib.Core.Path.{_≡_, refl, subst}
@@ -131,7 +131,8 @@ module _ (shape : Shape) (now-ms : ℕ) (out-header out-body : List ℕ) (a : Ar
 pub long-enough : (n : ℕ) (t : Table) → n ≤ 16 → LongEnough n t → LongFor (fullSize n) t
 unfolding hasRooms hasNumbers inRange
 long-enough n t few long =
+    let w : 1 + 38 * n ≤ length (t .numbers) = long .numbers in
     let i : 4 * n * 2048 ≤ length (t .index) = omega (arith, long .index) in
     let h : 4 * n * 4096 ≤ length (t .headers) = omega (arith, long .headers) in
     let a : 4 * n * 65536 ≤ length (t .arenas) = omega (arith, long .arenas) in
-    rw (le-leb _ _ few, le-leb _ _ (long .numbers), le-leb _ _ i, le-leb _ _ h, le-leb _ _ a)
+    rw (le-leb _ _ few, le-leb _ _ w, le-leb _ _ i, le-leb _ _ h, le-leb _ _ a)

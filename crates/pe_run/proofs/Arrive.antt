@@ -1,7 +1,7 @@
 -- What is open under a peer and request id, through what happens to the model.
 -- Assumes nothing.
 use Prim.Native.Nat.{ℕ, _-_, _≤_, _<_}
-use mathlib.Core.Bool.{Bool, true, false, cond, not, _&&_, _||_, or-true}
+use mathlib.Core.Bool.{Bool, true, false, not, _&&_, _||_, or-true}
 use mathlib.Core.List.{List, [], _∷_, _++_}
 use mathlib.Core.Logic.{_⊎_, inl, inr}
 use mathlib.Core.Option.{Option, none, some}
@@ -9,13 +9,13 @@ use mathlib.Core.Path.{_≡_, refl, sym, ap, _∙_}
 use native.Mathlib.Omega.{arith}
 use borrow.Author.Tests.{eqb-true, ne-eqb, lt-leb, lt-ltb}
 use lib.Dec.{leb, ltb, eqb}
-use Rattle.seven_bit.specs.Reply.{refused}
 use Rattle.seven_bit.proofs.ReplyLaws.{both, and-told}
 use Rattle.pe_frame.specs.Chunk.{Chunk}
 use Rattle.pe_reassembler.specs.declared.shape.Shape.{Shape}
 use Rattle.pe_run.specs.Lists.{keep}
 use Rattle.pe_run.specs.Model.{Open, Entry, Model, isAt, isOf, isLate, find, isNone, openOf, peersOpen, findsRecord, hasFour, touchedAt, judged, entryOf, without, arrived, arrives, Act, arrive, cancel, drop, poll, nothing, acted}
 use Rattle.pe_run.specs.Demand.{Room, Spared}
+use Rattle.pe_run.proofs.ModelLaws.{arrives-keeps}
 use Rattle.pe_run.proofs.ListLaws.{eqb-self, eqb-sym, never}
 
 -- ---- finding
@@ -105,14 +105,8 @@ module _ (p i : ℕ) (b : Model) (o : Open) (f : find p i b ≡ some o) where
 
   find-arrives : (shape : Shape) (q : ℕ) (c : Chunk) (now-ms : ℕ) → (eqb p q && eqb i (c .request-id)) ≡ false
       → find p i (arrives shape b q c now-ms .model) ≡ some o
-  unfolding arrives
-  find-arrives shape q c now-ms h = go (not (findsRecord (shape .«max_peers») q b)) (hasFour q (c .request-id) b)
-    where
-      go : (u v : Bool) → find p i (cond u (record { model = b; answer = refused 7 0 }) (cond v (record { model = b; answer = refused 6 0 })
-          (arrived q (c .request-id) b (judged shape (touchedAt (find q (c .request-id) b) now-ms) c))) .model) ≡ some o
-      go true v = f
-      go false true = f
-      go false false = find-done q (c .request-id) (judged shape (touchedAt (find q (c .request-id) b) now-ms) c .left) h
+  find-arrives shape q c now-ms h =
+      arrives-keeps shape b q c now-ms (λ (m : Model). find p i m ≡ some o) f (λ e left. find-done q (c .request-id) left h)
 
   -- Any other act leaves it open, and what is spared then is spared now.
   pub find-acted : (shape : Shape) (a : Act) (acts : List Act) → isArrival p i a ≡ false → Spared p i (o .time) (a ∷ acts)

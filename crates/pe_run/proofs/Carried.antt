@@ -171,24 +171,17 @@ module _ (shape : Shape) (peer request-id : ℕ) where
   under-act none h = h
   under-act (some a) h = h
 
+  no-act : (t : Bool) (act : Act) → isArrival peer request-id act ≡ false → isArrival peer request-id (cond t act nothing) ≡ false
+  no-act true act h = h
+  no-act false act h = refl
+
   pub act-other : (c : Call) → isOurs shape peer request-id c ≡ false → isArrival peer request-id (actOf shape c) ≡ false
   act-other (feed q chunk now-ms out-header out-body) h = under-act (grantedOf (fedArrival shape q chunk now-ms out-header out-body)) h
   act-other (feed-message message now-ms out-header out-body) h = under-act (grantedOf (messageArrival shape message now-ms out-header out-body)) h
-  act-other (cancel q j) h = go (isMuid q)
-    where
-      go : (t : Bool) → isArrival peer request-id (cond t (cancelled q j) nothing) ≡ false
-      go true = refl
-      go false = refl
-  act-other (drop-peer q) h = go (isMuid q)
-    where
-      go : (t : Bool) → isArrival peer request-id (cond t (dropped q) nothing) ≡ false
-      go true = refl
-      go false = refl
-  act-other (poll now-ms out-peers out-ids) h = go (hasPlaces (shape .«max_peers») out-peers && hasPlaces (shape .«max_peers») out-ids)
-    where
-      go : (t : Bool) → isArrival peer request-id (cond t (polled now-ms) nothing) ≡ false
-      go true = refl
-      go false = refl
+  act-other (cancel q j) h = no-act (isMuid q) (cancelled q j) refl
+  act-other (drop-peer q) h = no-act (isMuid q) (dropped q) refl
+  act-other (poll now-ms out-peers out-ids) h =
+      no-act (hasPlaces (shape .«max_peers») out-peers && hasPlaces (shape .«max_peers») out-ids) (polled now-ms) refl
   act-other memory-stats h = refl
   act-other reserved-bytes h = refl
   act-other (open-list out-peers out-ids out-held) h = refl

@@ -15,7 +15,7 @@ use Rattle.pe_frame.specs.Chunk.{Chunk}
 use Rattle.pe_reassembler.specs.Open.{Perm, empty, skip, swap, then}
 use Rattle.pe_reassembler.specs.declared.shape.Shape.{Shape}
 use Rattle.pe_run.specs.Lists.{keep, tally}
-use Rattle.pe_run.specs.Model.{Open, Entry, Model, isAt, isOf, isLate, find, findsRecord, hasFour, touchedAt, judged, entryOf, without, arrived, arrives, Act, arrive, cancel, drop, poll, nothing, acted}
+use Rattle.pe_run.specs.Model.{Open, Entry, Model, isAt, isOf, isLate, find, findsRecord, hasFour, touchedAt, judged, entryOf, without, Arrived, arrived, arrives, Act, arrive, cancel, drop, poll, nothing, acted}
 use Rattle.pe_run.proofs.ListLaws.{eqb-sym, tally-keep}
 
 -- ---- finding
@@ -112,19 +112,38 @@ pub unique-arrived : (peer id : ℕ) (b : Model) (o : Option Open) → Unique b 
 unique-arrived peer id b none u = unique-keep (λ (e : Entry). not (isAt peer id e)) b u
 unique-arrived peer id b (some x) u = (find-without peer id b, unique-keep (λ (e : Entry). not (isAt peer id e)) b u)
 
--- what holds of the model, and of it with what a chunk leaves, holds after a chunk
-arrives-keeps : (P : Model → Type 0) (shape : Shape) (b : Model) (peer : ℕ) (c : Chunk) (now-ms : ℕ) → P b
-    → (hasFour peer (c .request-id) b ≡ false → (o : Option Open) → P (entryOf peer (c .request-id) o ++ without peer (c .request-id) b))
-    → P (arrives shape b peer c now-ms .model)
-unfolding arrives
-arrives-keeps P shape b peer c now-ms same changed = go (not (findsRecord (shape .«max_peers») peer b)) (hasFour peer (c .request-id) b) refl
-  where
-    go : (u v : Bool) → hasFour peer (c .request-id) b ≡ v
-        → P (cond u (record { model = b; answer = refused 7 0 }) (cond v (record { model = b; answer = refused 6 0 })
-        (arrived peer (c .request-id) b (judged shape (touchedAt (find peer (c .request-id) b) now-ms) c))) .model)
-    go true v e = same
-    go false true e = same
-    go false false e = changed e (judged shape (touchedAt (find peer (c .request-id) b) now-ms) c .left)
+-- what a chunk does: it is refused by 7 or 6, or it reaches its slot
+module _ (shape : Shape) (b : Model) (peer : ℕ) (c : Chunk) (now-ms : ℕ) where
+  abbrev Reaches : Type 0
+  Reaches =
+      (hasFour peer (c .request-id) b ≡ false)
+      × (arrives shape b peer c now-ms ≡ arrived peer (c .request-id) b (judged shape (touchedAt (find peer (c .request-id) b) now-ms) c))
+
+  arrives-cases : (arrives shape b peer c now-ms ≡ record { model = b; answer = refused 7 0 })
+      ⊎ ((arrives shape b peer c now-ms ≡ record { model = b; answer = refused 6 0 }) ⊎ Reaches)
+  unfolding arrives
+  arrives-cases = go (both (findsRecord (shape .«max_peers») peer b)) (both (hasFour peer (c .request-id) b))
+    where
+      go : (findsRecord (shape .«max_peers») peer b ≡ true) ⊎ (findsRecord (shape .«max_peers») peer b ≡ false)
+          → (hasFour peer (c .request-id) b ≡ true) ⊎ (hasFour peer (c .request-id) b ≡ false)
+          → (arrives shape b peer c now-ms ≡ record { model = b; answer = refused 7 0 })
+          ⊎ ((arrives shape b peer c now-ms ≡ record { model = b; answer = refused 6 0 }) ⊎ Reaches)
+      go (inr e) k = inl (rw e refl)
+      go (inl e) (inl k) = inr (inl (rw (e, k) refl))
+      go (inl e) (inr k) = inr (inr (k, rw (e, k) refl))
+
+  -- what holds of the model, and of it with what a chunk leaves, holds after a chunk
+  pub arrives-keeps : (P : Model → Type 0) → P b
+      → (hasFour peer (c .request-id) b ≡ false → (o : Option Open) → P (entryOf peer (c .request-id) o ++ without peer (c .request-id) b))
+      → P (arrives shape b peer c now-ms .model)
+  arrives-keeps P same changed = go arrives-cases
+    where
+      go : (arrives shape b peer c now-ms ≡ record { model = b; answer = refused 7 0 })
+          ⊎ ((arrives shape b peer c now-ms ≡ record { model = b; answer = refused 6 0 }) ⊎ Reaches) → P (arrives shape b peer c now-ms .model)
+      go (inl e) = subst (λ (a : Arrived). P (a .model)) (sym e) same
+      go (inr (inl e)) = subst (λ (a : Arrived). P (a .model)) (sym e) same
+      go (inr (inr e)) =
+          subst (λ (a : Arrived). P (a .model)) (sym (e .1)) (changed (e .0) (judged shape (touchedAt (find peer (c .request-id) b) now-ms) c .left))
 
 -- ---- at most four
 abbrev pub Four : Model → Type 0
@@ -163,7 +182,7 @@ four-arrived peer id b (some y) h e other = go (both (eqb other peer)) (find pee
     go (inr a) o w = rw a (four-keep (λ (z : Entry). not (isAt peer id z)) b h other)
 
 pub four-step : (shape : Shape) (b : Model) (act : Act) → Four b → Four (acted shape b act)
-four-step shape b (arrive peer c now-ms) h = arrives-keeps Four shape b peer c now-ms h (λ e o. four-arrived peer (c .request-id) b o h e)
+four-step shape b (arrive peer c now-ms) h = arrives-keeps shape b peer c now-ms Four h (λ e o. four-arrived peer (c .request-id) b o h e)
 four-step shape b (cancel peer id) h = four-keep (λ (e : Entry). not (isAt peer id e)) b h
 four-step shape b (drop peer) h = four-keep (λ (e : Entry). not (isOf peer e)) b h
 four-step shape b (poll now-ms) h = four-keep (λ (e : Entry). not (isLate now-ms e)) b h

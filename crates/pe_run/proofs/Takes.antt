@@ -1,13 +1,14 @@
 -- A chunk, on the value of a table and on the model.
 -- Assumes nothing.
 use Prim.Native.Nat.{ℕ, _≤_}
-use mathlib.Core.Bool.{Bool, true, false}
+use mathlib.Core.Bool.{Bool, true, false, not, _&&_, _||_}
 use mathlib.Core.List.{List, [], _∷_, _++_}
 use mathlib.Core.Logic.{_⊎_, inl, inr}
 use mathlib.Core.Option.{Option, none, some}
 use mathlib.Core.Path.{_≡_, refl, sym, ap, ap₂, _∙_, subst}
 use native.Mathlib.Omega.{arith}
 use borrow.Author.Tests.{le-ltb, le-leb, not-true}
+use lib.Dec.{leb, eqb}
 use lib.ListN.{length, set}
 use Rattle.seven_bit.specs.Reply.{refused}
 use Rattle.seven_bit.proofs.ReplyLaws.{both, and-told}
@@ -16,7 +17,7 @@ use Rattle.pe_reassembler.specs.declared.shape.Shape.{Shape}
 use Rattle.pe_reassembler.specs.Open.{Perm, then}
 use Rattle.pe_reassembler.specs.Feed.{nextTick}
 use Rattle.pe_run.specs.Lists.{tally}
-use Rattle.pe_run.specs.Model.{Open, Model, find, openOf, peersOpen, findsRecord, hasFour, touchedAt, Judged, judged, entryOf, without, Arrived, arrived, arrives}
+use Rattle.pe_run.specs.Model.{Open, Model, find, isNone, openOf, peersOpen, findsRecord, hasFour, touchedAt, Judged, judged, entryOf, without, Arrived, arrived, arrives}
 use Rattle.pe_run.specs.Demand.{Room}
 use Rattle.pe_run.proofs.ListLaws.{NoneOf, all-first, all-second, tally-all}
 use Rattle.pe_run.proofs.PermLaws.{perm-sym}
@@ -33,15 +34,24 @@ finds-idle : {n : ℕ} {v : Value} {b : Model} → Rel n v b → (peer : ℕ) {t
 finds-idle {n} {v} {b} rel peer s h = finds-fewer n peer b (omega (arith, peers-are rel, split-short s isBusy (rw h), rel .size))
 
 -- the two refusals
+finds-none : (n peer : ℕ) (b : Model) → openOf peer b ≡ 0 → n ≤ peersOpen b → findsRecord n peer b ≡ false
+unfolding findsRecord
+finds-none n peer b e h = ap₂ (λ (k : ℕ) (fewer : Bool). not (eqb k 0) || fewer) e (le-ltb (peersOpen b) n h)
+
 arrive-full : (shape : Shape) (peer : ℕ) (b : Model) (c : Chunk) (now-ms : ℕ) → openOf peer b ≡ 0 → shape .«max_peers» ≤ peersOpen b
     → arrives shape b peer c now-ms ≡ record { model = b; answer = refused 7 0 }
-unfolding arrives findsRecord
-arrive-full shape peer b c now-ms e h = rw (e, le-ltb (peersOpen b) (shape .«max_peers») h) refl
+unfolding arrives
+arrive-full shape peer b c now-ms e h = rw (finds-none (shape .«max_peers») peer b e h) refl
+
+has-four : (peer request-id : ℕ) (b : Model) → 4 ≤ openOf peer b → find peer request-id b ≡ none → hasFour peer request-id b ≡ true
+unfolding hasFour
+has-four peer request-id b h e = ap (λ (o : Option Open). isNone o && leb 4 (openOf peer b)) e ∙ le-leb 4 (openOf peer b) h
 
 arrive-fifth : (shape : Shape) (peer : ℕ) (b : Model) (c : Chunk) (now-ms : ℕ) → 4 ≤ openOf peer b → find peer (c .request-id) b ≡ none
     → arrives shape b peer c now-ms ≡ record { model = b; answer = refused 6 0 }
-unfolding arrives hasFour
-arrive-fifth shape peer b c now-ms h e = rw (finds-open (shape .«max_peers») peer b (omega arith), e, le-leb 4 (openOf peer b) h) refl
+unfolding arrives
+arrive-fifth shape peer b c now-ms h e =
+    rw (finds-open (shape .«max_peers») peer b (omega arith), has-four peer (c .request-id) b h e) refl
 
 -- ---- what the value makes of a chunk
 module _ (shape : Shape) (v : Value) (peer : ℕ) (c : Chunk) (now-ms : ℕ) where
