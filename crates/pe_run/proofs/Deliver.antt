@@ -42,8 +42,8 @@ module _ (n peer request-id m : ℕ) (header body : List ℕ) where
       → AllRight full b calls told
       → answersTo full peer request-id calls told ≡ delivered header body (mine calls)
 
-  abbrev answered : Reply Event → Arrival → Answer
-  answered answer a = fed (toldAnswer answer) (outHeader answer (a .out-header)) (outBody answer (a .out-body))
+  abbrev tells : Reply Event → Arrival → Answer
+  tells answer a = fed (toldAnswer answer) (outHeader answer (a .out-header)) (outBody answer (a .out-body))
 
   -- one of ours, at a slot that holds what has come
   module _ (calls : List Call) (b : Model) (held : List Chunk) (c : Call) (k : Carrying full peer request-id c) (count : ℕ) (told : Answer) (more : List Answer)
@@ -65,8 +65,8 @@ module _ (n peer request-id m : ℕ) (header body : List ℕ) where
     now-is : now ≡ arrived peer request-id b (settled time (slotWith header m (held ++ (chunk ∷ []))))
     now-is = here ∙ ap (arrived peer request-id b) (judged-good held chunk (carried (mine calls)) g n time count known)
 
-    told-is : (answer : Reply Event) → now .answer ≡ answer → told ≡ answered answer (k .arrival)
-    told-is answer e = answer-arrives full b c (k .arrival) told (k .arrives) right ∙ ap (λ (r : Reply Event). answered r (k .arrival)) e
+    told-is : (answer : Reply Event) → now .answer ≡ answer → told ≡ tells answer (k .arrival)
+    told-is answer e = answer-arrives full b c (k .arrival) told (k .arrives) right ∙ ap (λ (r : Reply Event). tells r (k .arrival)) e
 
     on : acted full b (actOf full c) ≡ now .model
     on = ap (acted full b) (act-arrives full c (k .arrival) (k .arrives))
@@ -79,14 +79,14 @@ module _ (n peer request-id m : ℕ) (header body : List ℕ) where
       where
         go : (ds : List Arrival) → mine calls ≡ ds → told ∷ answersTo full peer request-id calls more ≡ delivered header body (k .arrival ∷ ds)
         go [] w =
-            ap₂ (λ (a : Answer) (l : List Answer). a ∷ l) (told-is (granted (whole header body)) (ap (λ (r : Arrived). r .answer) closed))
+            ap₂ (λ (a : Answer) (l : List Answer). a ∷ l) (told-is (granted (whole header body)) (ap (λ (r : Arrived). r .answer) ended))
             (none-ours full peer request-id calls more w)
           where
             all : Good header body m (held ++ (chunk ∷ []))
             all = subst (λ (l : List Arrival). Good header body m (held ++ chunk ∷ carried l)) w g
 
-            closed : now ≡ arrived peer request-id b (judgedTo none (whole header body))
-            closed = now-is ∙ ap (arrived peer request-id b) (settled-last time all)
+            ended : now ≡ arrived peer request-id b (judgedTo none (whole header body))
+            ended = now-is ∙ ap (arrived peer request-id b) (settled-last time all)
         go (d ∷ ds) w =
             ap₂ (λ (a : Answer) (l : List Answer). a ∷ l) (told-is (granted waiting) (ap (λ (r : Arrived). r .answer) open′))
             (story (now .model) (held ++ (chunk ∷ [])) time more good-on found spared (subst (λ (x : Model). AllRight full x calls more) on rest-right)

@@ -49,9 +49,9 @@ unfolding fedArrival
 fed-arrives peer c now-ms m r = rw (long-enough, m, bytes-read c r, bytes-chunk c) refl
 
 -- ---- the list
-counted : cutCount 5 header body 128 ≡ granted 2
+cut-count : cutCount 5 header body 128 ≡ granted 2
 unfolding cutCount askCut isSevenBit bodyPieces cutUp firstCapacity laterCapacity budget clamped
-counted = refl
+cut-count = refl
 
 first-chunk : chunkAt 5 header body 128 1 ≡ one
 unfolding chunkAt bodyPieces cutUp firstCapacity laterCapacity budget clamped
@@ -62,22 +62,22 @@ unfolding chunkAt bodyPieces cutUp firstCapacity laterCapacity budget clamped
 second-chunk = refl
 
 cut : CutInto 5 header body 128 (chunkBytes one ∷ chunkBytes two ∷ [])
-cut = record { count = counted; each = each }
+cut = record { count = cut-count; each = each }
   where
     each : (k : ℕ) → k < 2 → cutChunk 5 header body 128 (suc k) 4096 ≡ granted (getD (chunkBytes one ∷ chunkBytes two ∷ []) k [])
     each zero l =
-        budget-is-room 5 header body 128 2 1 4096 counted (omega arith) (omega arith) (omega (arith, budget-between 128))
+        budget-is-room 5 header body 128 2 1 4096 cut-count (omega arith) (omega arith) (omega (arith, budget-between 128))
         ∙ ap (λ (c : Chunk). granted (chunkBytes c)) first-chunk
     each (suc zero) l =
-        budget-is-room 5 header body 128 2 2 4096 counted (omega arith) (omega arith) (omega (arith, budget-between 128))
+        budget-is-room 5 header body 128 2 2 4096 cut-count (omega arith) (omega arith) (omega (arith, budget-between 128))
         ∙ ap (λ (c : Chunk). granted (chunkBytes c)) second-chunk
     each (suc (suc k)) l = absurd (omega arith)
 
 one-in-range : InRange one
-one-in-range = subst InRange first-chunk (fields-in-range 5 header body 128 2 1 counted (omega arith) (omega arith))
+one-in-range = subst InRange first-chunk (fields-in-range 5 header body 128 2 1 cut-count (omega arith) (omega arith))
 
 two-in-range : InRange two
-two-in-range = subst InRange second-chunk (fields-in-range 5 header body 128 2 2 counted (omega arith) (omega arith))
+two-in-range = subst InRange second-chunk (fields-in-range 5 header body 128 2 2 cut-count (omega arith) (omega arith))
 
 -- ---- others
 other-in-range : (request-id number : ℕ) → request-id ≤ 127 → number ≤ 16383 → InRange (other request-id number)

@@ -25,10 +25,10 @@ use Rattle.pe_run.proofs.Answered.{answered}
 use Rattle.pe_run.proofs.Instance.{bearing, arrives-first, arrives-8, arrives-9, torn-refused, message-arrives, entry, piece, open-before, before-is}
 
 -- ---- one call after the other
-record Told (b : Model) (calls : List Call) (xs : List Answer) : Type 0 where
+record Gives (b : Model) (calls : List Call) (xs : List Answer) : Type 0 where
   all : (told : List Answer) → AllRight (fullSize 2) b calls told → told ≡ xs
 
-done : {b : Model} → Told b [] []
+done : {b : Model} → Gives b [] []
 done {b} = record { all = go }
   where
     go : (told : List Answer) → AllRight (fullSize 2) b [] told → told ≡ []
@@ -36,7 +36,7 @@ done {b} = record { all = go }
     go (a ∷ told) r = absurd r
 
 next : {b : Model} {c : Call} {calls : List Call} {x : Answer} {xs : List Answer} (left : Model)
-    → ((a : Answer) → Right (fullSize 2) b c a → a ≡ x) → acted (fullSize 2) b (actOf (fullSize 2) c) ≡ left → Told left calls xs → Told b (c ∷ calls) (x ∷ xs)
+    → ((a : Answer) → Right (fullSize 2) b c a → a ≡ x) → acted (fullSize 2) b (actOf (fullSize 2) c) ≡ left → Gives left calls xs → Gives b (c ∷ calls) (x ∷ xs)
 next {b} {c} {calls} {x} {xs} left is on more = record { all = go }
   where
     go : (told : List Answer) → AllRight (fullSize 2) b (c ∷ calls) told → told ≡ x ∷ xs
@@ -48,8 +48,8 @@ next {b} {c} {calls} {x} {xs} left is on more = record { all = go }
 -- a chunk that arrives
 next-chunk : {b : Model} {c : Call} {calls : List Call} {xs : List Answer} (a : Arrival) (left : Model) (answer : Reply Event)
     → arrivalOf (fullSize 2) c ≡ some a
-    → arrives (fullSize 2) b (a .peer) (a .chunk) (a .time) ≡ record { model = left; answer = answer } → Told left calls xs
-    → Told b (c ∷ calls) (fed (toldAnswer answer) (outHeader answer (a .out-header)) (outBody answer (a .out-body)) ∷ xs)
+    → arrives (fullSize 2) b (a .peer) (a .chunk) (a .time) ≡ record { model = left; answer = answer } → Gives left calls xs
+    → Gives b (c ∷ calls) (fed (toldAnswer answer) (outHeader answer (a .out-header)) (outBody answer (a .out-body)) ∷ xs)
 next-chunk {b} {c} a left answer e f more =
     next left
     (λ y w. answer-arrives (fullSize 2) b c a y e w
@@ -98,7 +98,7 @@ takes-last : arrives (fullSize 2) (ours-open ∷ []) 9 one 9000 ≡ record { mod
 unfolding arrives findsRecord hasFour judged judge headerFits headerAgrees sameHeader countAgrees newHeader newCount isNone held bodyLen afterChunk passed isWhole allHeld eventOf insert inOrder joined bodyOf
 takes-last = refl
 
-told-from : Told open-before (first ∷ rest) answers
+told-from : Gives open-before (first ∷ rest) answers
 unfolding reservedOf bodyLen
 told-from =
     next-chunk (bearing 9 two 100) (ours-open ∷ open-before) (granted waiting) (ap grantedOf arrives-first) takes-first

@@ -102,7 +102,7 @@ pub record Delivery (n : ℕ) (b : Model) (peer request-id : ℕ) (header body :
   pub each-once : Perm (map (λ (a : Arrival). a .bytes) (ours (fullSize n) peer request-id (first ∷ rest))) chunks
   pub spared : Spared peer request-id 0 (map (actOf (fullSize n)) (first ∷ rest))
 
--- Of every run on a table of this shape that `new` has just made of memory t:
+-- Of every run on a full-size table of n peers that `new` has just made of memory t:
 pub record Demand3 (n : ℕ) (t : Table) : Type 0 where
   -- every answer is the model's;
   pub answers : (calls : List Call) (told : List Answer) → Run (fullSize n) (made (fullSize n) t) calls told → AllRight (fullSize n) [] calls told
