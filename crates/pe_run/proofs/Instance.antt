@@ -134,7 +134,8 @@ abbrev pub open-before : Model
 open-before = entry 9 6 10 (some []) 3 (piece 1 (9 ∷ []) ∷ []) ∷ entry 8 5 0 (some []) 3 (piece 1 (9 ∷ []) ∷ []) ∷ []
 
 pub before-is : modelAfter (fullSize 2) before ≡ open-before
-unfolding arrives findsRecord hasFour judged judge headerFits headerAgrees sameHeader countAgrees newHeader newCount isNone held bodyLen afterChunk passed isWhole allHeld eventOf
+unfolding arrives findsRecord hasFour judged judge headerFits headerAgrees sameHeader countAgrees newHeader newCount isNone held bodyLen
+    afterChunk passed isWhole allHeld eventOf
 before-is = rw (arrives-before-8, arrives-before-9) refl
 
 instance-room : Room 2 9 5 (modelAfter (fullSize 2) before)

@@ -83,19 +83,23 @@ abbrev open-all : Model
 open-all = entry 9 6 200 (some []) 3 (piece 1 (9 ∷ []) ∷ []) ∷ their-open ∷ ours-open ∷ []
 
 takes-first : arrives (fullSize 2) open-before 9 two 100 ≡ record { model = ours-open ∷ open-before; answer = granted waiting }
-unfolding arrives findsRecord hasFour judged judge headerFits headerAgrees sameHeader countAgrees newHeader newCount isNone held bodyLen afterChunk passed isWhole allHeld eventOf
+unfolding arrives findsRecord hasFour judged judge headerFits headerAgrees sameHeader countAgrees newHeader newCount isNone held bodyLen
+    afterChunk passed isWhole allHeld eventOf
 takes-first = refl
 
 takes-8 : arrives (fullSize 2) (ours-open ∷ open-before) 8 (other 5 2) 150 ≡ record { model = open-two; answer = granted waiting }
-unfolding arrives findsRecord hasFour judged judge headerFits headerAgrees sameHeader countAgrees newHeader newCount isNone held bodyLen afterChunk passed isWhole allHeld eventOf
+unfolding arrives findsRecord hasFour judged judge headerFits headerAgrees sameHeader countAgrees newHeader newCount isNone held bodyLen
+    afterChunk passed isWhole allHeld eventOf
 takes-8 = refl
 
 takes-9 : arrives (fullSize 2) open-two 9 (other 6 1) 200 ≡ record { model = open-all; answer = refused 8 0 }
-unfolding arrives findsRecord hasFour judged judge headerFits headerAgrees sameHeader eqList countAgrees newHeader newCount isNone held bodyLen afterChunk passed isWhole allHeld eventOf
+unfolding arrives findsRecord hasFour judged judge headerFits headerAgrees sameHeader eqList countAgrees newHeader newCount isNone held
+    bodyLen afterChunk passed isWhole allHeld eventOf
 takes-9 = refl
 
 takes-last : arrives (fullSize 2) (ours-open ∷ []) 9 one 9000 ≡ record { model = []; answer = granted (whole header body) }
-unfolding arrives findsRecord hasFour judged judge headerFits headerAgrees sameHeader countAgrees newHeader newCount isNone held bodyLen afterChunk passed isWhole allHeld eventOf insert inOrder joined bodyOf
+unfolding arrives findsRecord hasFour judged judge headerFits headerAgrees sameHeader countAgrees newHeader newCount isNone held
+    bodyLen afterChunk passed isWhole allHeld eventOf insert inOrder joined bodyOf
 takes-last = refl
 
 told-from : Gives open-before (first ∷ rest) answers
