@@ -16,7 +16,7 @@ use Rattle.pe_run.specs.Model.{Entry, Model, isLate, findsRecord, hasFou
 use Rattle.pe_run.specs.Calls.{Call, Answer, fed, timed-out, Arrival, grantedOf, arrivalOf, actOf, Key, keyOf, TimedOut, Right, AllRight}
 use Rattle.pe_run.specs.Run.{Table, made, tableFrom, Run}
 use Rattle.pe_run.specs.Demand.{fullSize, LongEnough}
-use Rattle.pe_run.specs.Instance.{memory, places, header, body, one, two, other, before, first, rest, answers}
+use Rattle.pe_run.specs.Instance.{lentMemory, places, header, body, one, two, other, before, first, rest, answers}
 use Rattle.pe_run.proofs.PermLaws.{perm-length}
 use Rattle.pe_run.proofs.Ahead.{long-enough}
 use Rattle.pe_run.proofs.Carried.{act-arrives, answer-arrives}
@@ -36,7 +36,8 @@ done {b} = record { all = go }
     go (a ∷ told) r = absurd r
 
 next : {b : Model} {c : Call} {calls : List Call} {x : Answer} {xs : List Answer} (left : Model)
-    → ((a : Answer) → Right (fullSize 2) b c a → a ≡ x) → acted (fullSize 2) b (actOf (fullSize 2) c) ≡ left → Gives left calls xs → Gives b (c ∷ calls) (x ∷ xs)
+    → ((a : Answer) → Right (fullSize 2) b c a → a ≡ x) → acted (fullSize 2) b (actOf (fullSize 2) c) ≡ left → Gives left calls xs
+    → Gives b (c ∷ calls) (x ∷ xs)
 next {b} {c} {calls} {x} {xs} left is on more = record { all = go }
   where
     go : (told : List Answer) → AllRight (fullSize 2) b (c ∷ calls) told → told ≡ x ∷ xs
@@ -132,8 +133,8 @@ instance-run t long =
     (instance-told t long (a .0) (a .1)) (a .1)
 
 -- There is such memory.
-pub memory-long : LongEnough 2 memory
-unfolding memory
+pub memory-long : LongEnough 2 lentMemory
+unfolding lentMemory
 memory-long = record { numbers = zeros 77; index = zeros 16384; headers = zeros 32768; arenas = zeros 524288 }
   where
     zeros : (n : ℕ) → n ≤ length (replicate {A = ℕ} n 0)

@@ -50,7 +50,7 @@ touched-sound H B R t index request-id now-ms tick e =
     let p : laid H B R t index ≡ true = halves H B R t index e .0 in
     rw (p, opened (t .active))
 
--- the lengths of a slot's parts at full size
+-- the lengths of a slot's parts
 pub record Sized (shape : Shape) (words index header arena : List ℕ) : Type 0 where
   pub words-size : length words ≡ 9
   pub index-size : length index ≡ shape .«fragment_records»

@@ -15,8 +15,8 @@ use Rattle.pe_run.specs.Calls.{Call, feed, feed-message, cancel, drop-pe
 use Rattle.pe_run.specs.Run.{Table, table}
 
 -- ---- what is lent
-unfoldable pub memory : Table
-memory = table (replicate 77 0) (replicate 16384 0) (replicate 32768 0) (replicate 524288 0)
+unfoldable pub lentMemory : Table
+lentMemory = table (replicate 77 0) (replicate 16384 0) (replicate 32768 0) (replicate 524288 0)
 
 unfoldable pub lentHeader : List ℕ
 lentHeader = replicate 4096 0
