@@ -69,7 +69,7 @@ rest =
     ∷ feed 9 (chunkBytes (other 6 1)) 200 lentHeader lentBody
     ∷ memory-stats
     ∷ poll 3099 places places
-    ∷ poll 9000 [] places
+    ∷ poll 9000 places []
     ∷ feed 9 torn 300 lentHeader lentBody
     ∷ poll 50 places places
     ∷ cancel 9 6
@@ -85,7 +85,7 @@ answers =
     ∷ fed (refused 8 0) lentHeader lentBody
     ∷ totals (granted (record { reserved-bytes = 688128; active-bytes = 38; active-slots = 3 }))
     ∷ timed-out (granted 0) places places
-    ∷ timed-out (refused 30 0) [] places
+    ∷ timed-out (refused 30 0) places []
     ∷ fed (refused 2 0) lentHeader lentBody
     ∷ timed-out (granted 0) places places
     ∷ was-open (granted true)
