@@ -16,72 +16,69 @@ use Rattle.pe_reassembler.specs.Table.{inRange, hasNumbers, hasRooms, isMuid}
 use Rattle.pe_reassembler.specs.Feed.{FeedLeft, feedLeft, atTable, chunkRead, hasAll, feedCall, messageRead, messageCall}
 use Rattle.pe_reassembler.specs.Poll.{Timeout, dueFrom, sorted, closeDue, polled, pollCall}
 use Rattle.pe_reassembler.specs.Open.{Shown, listed, openCall}
-use Rattle.pe_run.specs.Calls.{Arrival, arriving, hasOutputs, fedArrival, messageArrival, hasPlaces}
-use Rattle.pe_run.specs.Demand.{LongEnough}
-use Rattle.pe_run.specs.Run.{Table, fullSize, lent}
+use Rattle.pe_reassembler.specs.declared.shape.Shape.{Shape}
+use Rattle.pe_run.specs.Demand.{fullSize, LongEnough}
+use Rattle.pe_run.specs.Calls.{Arrival, arrival, arriving, hasOutputs, fedArrival, messageArrival, hasPlaces}
+use Rattle.pe_run.specs.Run.{Table, lent, LongFor}
 
 -- a chunk that arrives reaches the table; a refusal changes nothing
-abbrev pub reached : ℕ → Table → List ℕ → List ℕ → Reply Arrival → FeedLeft
-reached n t out-header out-body (granted a) = atTable (fullSize n) (lent t out-header out-body) (a .peer) (a .chunk) (a .time)
-reached n t out-header out-body (refused number value) = feedLeft (refused number value) (lent t out-header out-body)
+abbrev pub reached : Shape → Table → List ℕ → List ℕ → Reply Arrival → FeedLeft
+reached shape t out-header out-body (granted a) = atTable shape (lent t out-header out-body) (a .peer) (a .chunk) (a .time)
+reached shape t out-header out-body (refused number value) = feedLeft (refused number value) (lent t out-header out-body)
 
-module _ (n : ℕ) (t : Table) (few : n ≤ 16) (long : LongEnough n t) where
+module _ (shape : Shape) (t : Table) (ok : LongFor shape t) where
   -- ---- question 30
-  pub numbers-asked : hasNumbers (fullSize n) (t .numbers) ≡ true
-  unfolding hasNumbers inRange
-  numbers-asked = rw (le-leb _ _ few, le-leb _ _ (long .numbers))
-
-  pub rooms-asked : hasRooms (fullSize n) (t .numbers) (t .index) (t .headers) (t .arenas) ≡ true
+  pub numbers-asked : hasNumbers shape (t .numbers) ≡ true
   unfolding hasRooms
-  rooms-asked =
-      let i : 4 * n * 2048 ≤ length (t .index) = omega (arith, long .index) in
-      let h : 4 * n * 4096 ≤ length (t .headers) = omega (arith, long .headers) in
-      let a : 4 * n * 65536 ≤ length (t .arenas) = omega (arith, long .arenas) in
-      rw (numbers-asked, le-leb _ _ i, le-leb _ _ h, le-leb _ _ a)
+  numbers-asked = and-told _ _ (and-told _ _ (and-told _ _ ok .0) .0) .0
 
-  pub all-asked : (out-header out-body : List ℕ) → hasAll (fullSize n) (lent t out-header out-body) ≡ hasOutputs out-header out-body
+  pub all-asked : (out-header out-body : List ℕ) → hasAll shape (lent t out-header out-body) ≡ hasOutputs shape out-header out-body
   unfolding hasAll
-  all-asked out-header out-body = rw rooms-asked
+  all-asked out-header out-body = rw ok
 
   -- ---- the two feeds
   module _ (out-header out-body : List ℕ) (now-ms : ℕ) where
     read-ahead : (r : Reply Fields) (peer : ℕ) (bytes : List ℕ)
-        → chunkRead r (fullSize n) (lent t out-header out-body) peer bytes now-ms
-        ≡ reached n t out-header out-body (andThen r (λ (f : Fields). granted (record { peer = peer; bytes = bytes; chunk = chunkOf bytes f; time = now-ms })))
+        → chunkRead r shape (lent t out-header out-body) peer bytes now-ms
+        ≡ reached shape t out-header out-body (andThen r (λ (f : Fields). granted (arrival peer bytes (chunkOf bytes f) now-ms out-header out-body)))
     read-ahead (granted f) peer bytes = refl
     read-ahead (refused number value) peer bytes = refl
 
     pub feed-ahead : (peer : ℕ) (chunk : List ℕ)
-        → feedCall (fullSize n) (lent t out-header out-body) peer chunk now-ms ≡ reached n t out-header out-body (fedArrival peer chunk now-ms out-header out-body)
+        → feedCall shape (lent t out-header out-body) peer chunk now-ms
+        ≡ reached shape t out-header out-body (fedArrival shape peer chunk now-ms out-header out-body)
     unfolding feedCall fedArrival
-    feed-ahead peer chunk = rw (all-asked out-header out-body) (go (hasOutputs out-header out-body) (isMuid peer))
+    feed-ahead peer chunk = rw (all-asked out-header out-body) (go (hasOutputs shape out-header out-body) (isMuid peer))
       where
         go : (outputs muid : Bool)
-            → cond outputs (cond muid (chunkRead (readFields chunk) (fullSize n) (lent t out-header out-body) peer chunk now-ms) (feedLeft (refused 28 0) (lent t out-header out-body)))
+            → cond outputs (cond muid (chunkRead (readFields chunk) shape (lent t out-header out-body) peer chunk now-ms)
+            (feedLeft (refused 28 0) (lent t out-header out-body)))
             (feedLeft (refused 30 0) (lent t out-header out-body))
-            ≡ reached n t out-header out-body (cond outputs (cond muid (arriving peer chunk now-ms) (refused 28 0)) (refused 30 0))
+            ≡ reached shape t out-header out-body (cond outputs (cond muid (arriving peer chunk now-ms out-header out-body) (refused 28 0)) (refused 30 0))
         go true true = read-ahead (readFields chunk) peer chunk
         go true false = refl
         go false muid = refl
 
     pub message-ahead : (message : List ℕ)
-        → messageCall (fullSize n) (lent t out-header out-body) message now-ms ≡ reached n t out-header out-body (messageArrival message now-ms out-header out-body)
+        → messageCall shape (lent t out-header out-body) message now-ms
+        ≡ reached shape t out-header out-body (messageArrival shape message now-ms out-header out-body)
     unfolding messageCall messageArrival
-    message-ahead message = rw (all-asked out-header out-body) (go (hasOutputs out-header out-body) (readMessage message))
+    message-ahead message = rw (all-asked out-header out-body) (go (hasOutputs shape out-header out-body) (readMessage message))
       where
         go : (outputs : Bool) (r : Reply Message)
-            → cond outputs (messageRead r (fullSize n) (lent t out-header out-body) message now-ms) (feedLeft (refused 30 0) (lent t out-header out-body))
-            ≡ reached n t out-header out-body (cond outputs (andThen r (λ (m : Message). arriving (m .header .source) (drop 13 message) now-ms)) (refused 30 0))
+            → cond outputs (messageRead r shape (lent t out-header out-body) message now-ms) (feedLeft (refused 30 0) (lent t out-header out-body))
+            ≡ reached shape t out-header out-body
+            (cond outputs (andThen r (λ (m : Message). arriving (m .header .source) (drop 13 message) now-ms out-header out-body)) (refused 30 0))
         go true (granted m) = read-ahead (readFields (drop 13 message)) (m .header .source) (drop 13 message)
         go true (refused number value) = refl
         go false r = refl
 
   -- ---- the other calls
   pub poll-ahead : (now-ms : ℕ) (out-peers out-ids : List ℕ)
-      → pollCall (fullSize n) (t .numbers) now-ms out-peers out-ids
-      ≡ cond (hasPlaces n out-peers && hasPlaces n out-ids)
-      (let due : List Timeout = sorted [] (dueFrom (t .numbers) now-ms 0 0 (4 * n)) in
-      polled (granted (length due)) (closeDue now-ms 0 0 (4 * n) (t .numbers))
+      → pollCall shape (t .numbers) now-ms out-peers out-ids
+      ≡ cond (hasPlaces (shape .«max_peers») out-peers && hasPlaces (shape .«max_peers») out-ids)
+      (let due : List Timeout = sorted [] (dueFrom (t .numbers) now-ms 0 0 (4 * shape .«max_peers»)) in
+      polled (granted (length due)) (closeDue now-ms 0 0 (4 * shape .«max_peers») (t .numbers))
       (map (λ (r : Timeout). r .peer) due ++ drop (length due) out-peers)
       (map (λ (r : Timeout). r .request-id) due ++ drop (length due) out-ids))
       (polled (refused 30 0) (t .numbers) out-peers out-ids)
@@ -89,8 +86,8 @@ module _ (n : ℕ) (t : Table) (few : n ≤ 16) (long : LongEnough n t) where
   poll-ahead now-ms out-peers out-ids = rw numbers-asked
 
   pub list-ahead : (rows : List Shown) (out-peers out-ids out-held : List ℕ)
-      → openCall (fullSize n) (t .numbers) rows out-peers out-ids out-held
-      ≡ cond (hasPlaces n out-peers && hasPlaces n out-ids && hasPlaces n out-held)
+      → openCall shape (t .numbers) rows out-peers out-ids out-held
+      ≡ cond (hasPlaces (shape .«max_peers») out-peers && hasPlaces (shape .«max_peers») out-ids && hasPlaces (shape .«max_peers») out-held)
       (listed (granted (length rows))
       (map (λ (r : Shown). r .peer) rows ++ drop (length rows) out-peers)
       (map (λ (r : Shown). r .request-id) rows ++ drop (length rows) out-ids)
@@ -100,31 +97,42 @@ module _ (n : ℕ) (t : Table) (few : n ≤ 16) (long : LongEnough n t) where
   list-ahead rows out-peers out-ids out-held = rw numbers-asked
 
 -- ---- what arrives: its numbers are small, and both outputs are long enough
-pub record Small (out-header out-body : List ℕ) (a : Arrival) : Type 0 where
-  pub header-room : 4096 ≤ length out-header
-  pub body-room : 65536 ≤ length out-body
+pub record Small (shape : Shape) (out-header out-body : List ℕ) (a : Arrival) : Type 0 where
+  pub header-room : shape .«header_bytes» ≤ length out-header
+  pub body-room : shape .«tx_bytes» ≤ length out-body
   pub number : a .chunk .chunk-num ≤ 16383
   pub property : length (a .chunk .property) ≤ 16383
 
-module _ (now-ms : ℕ) (out-header out-body : List ℕ) (a : Arrival) where
-  arriving-small : (peer : ℕ) (bytes : List ℕ) → hasOutputs out-header out-body ≡ true → arriving peer bytes now-ms ≡ granted a → Small out-header out-body a
+module _ (shape : Shape) (now-ms : ℕ) (out-header out-body : List ℕ) (a : Arrival) where
+  arriving-small : (peer : ℕ) (bytes : List ℕ) → hasOutputs shape out-header out-body ≡ true → arriving peer bytes now-ms out-header out-body ≡ granted a
+      → Small shape out-header out-body a
   arriving-small peer bytes o q =
       let f = first-granted (readFields bytes) _ a q in
       let r = read-in-range bytes (f .0) (f .1) in
       let e = and-told _ _ o in
-      subst (Small out-header out-body) (same-grant _ _ a refl (f .2))
+      subst (Small shape out-header out-body) (same-grant _ _ a refl (f .2))
       (record { header-room = leb-true _ _ (e .0); body-room = leb-true _ _ (e .1); number = r .number; property = r .property-len })
 
-  pub fed-small : (peer : ℕ) (chunk : List ℕ) → fedArrival peer chunk now-ms out-header out-body ≡ granted a → Small out-header out-body a
+  pub fed-small : (peer : ℕ) (chunk : List ℕ) → fedArrival shape peer chunk now-ms out-header out-body ≡ granted a → Small shape out-header out-body a
   unfolding fedArrival
   fed-small peer chunk q =
-      let b = asked (hasOutputs out-header out-body) 30 _ a q in
+      let b = asked (hasOutputs shape out-header out-body) 30 _ a q in
       let m = asked (isMuid peer) 28 _ a (b .1) in
       arriving-small peer chunk (b .0) (m .1)
 
-  pub message-small : (message : List ℕ) → messageArrival message now-ms out-header out-body ≡ granted a → Small out-header out-body a
+  pub message-small : (message : List ℕ) → messageArrival shape message now-ms out-header out-body ≡ granted a → Small shape out-header out-body a
   unfolding messageArrival
   message-small message q =
-      let b = asked (hasOutputs out-header out-body) 30 _ a q in
+      let b = asked (hasOutputs shape out-header out-body) 30 _ a q in
       let m = first-granted (readMessage message) _ a (b .1) in
       arriving-small (m .0 .header .source) (drop 13 message) (b .0) (m .2)
+
+-- ---- memory long enough for full size
+pub long-enough : (n : ℕ) (t : Table) → n ≤ 16 → LongEnough n t → LongFor (fullSize n) t
+unfolding hasRooms hasNumbers inRange
+long-enough n t few long =
+    let w : 1 + 38 * n ≤ length (t .numbers) = long .numbers in
+    let i : 4 * n * 2048 ≤ length (t .index) = omega (arith, long .index) in
+    let h : 4 * n * 4096 ≤ length (t .headers) = omega (arith, long .headers) in
+    let a : 4 * n * 65536 ≤ length (t .arenas) = omega (arith, long .arenas) in
+    rw (le-leb _ _ few, le-leb _ _ w, le-leb _ _ i, le-leb _ _ h, le-leb _ _ a)

@@ -1,20 +1,21 @@
 -- What is open under a peer and request id, through what happens to the model.
 -- Assumes nothing.
-use Prim.Native.Nat.{ℕ, _-_, _≤_}
-use mathlib.Core.Bool.{Bool, true, false, cond, not, _&&_}
+use Prim.Native.Nat.{ℕ, _-_, _≤_, _<_}
+use mathlib.Core.Bool.{Bool, true, false, not, _&&_, _||_, or-true}
 use mathlib.Core.List.{List, [], _∷_, _++_}
 use mathlib.Core.Logic.{_⊎_, inl, inr}
 use mathlib.Core.Option.{Option, none, some}
 use mathlib.Core.Path.{_≡_, refl, sym, ap, _∙_}
 use native.Mathlib.Omega.{arith}
-use borrow.Author.Tests.{eqb-true, ne-eqb, lt-leb}
-use lib.Dec.{leb, eqb}
-use Rattle.seven_bit.specs.Reply.{refused}
+use borrow.Author.Tests.{eqb-true, ne-eqb, lt-leb, lt-ltb}
+use lib.Dec.{leb, ltb, eqb}
 use Rattle.seven_bit.proofs.ReplyLaws.{both, and-told}
 use Rattle.pe_frame.specs.Chunk.{Chunk}
+use Rattle.pe_reassembler.specs.declared.shape.Shape.{Shape}
 use Rattle.pe_run.specs.Lists.{keep}
-use Rattle.pe_run.specs.Model.{Open, Entry, Model, isAt, isOf, isLate, find, openOf, findsRecord, hasFour, touchedAt, judged, entryOf, without, arrived, arrives, Act, arrive, cancel, drop, poll, nothing, after}
+use Rattle.pe_run.specs.Model.{Open, Entry, Model, isAt, isOf, isLate, find, isNone, openOf, peersOpen, findsRecord, hasFour, touchedAt, judged, entryOf, without, arrived, arrives, Act, arrive, cancel, drop, poll, nothing, acted}
 use Rattle.pe_run.specs.Demand.{Room, Spared}
+use Rattle.pe_run.proofs.ModelLaws.{arrives-keeps}
 use Rattle.pe_run.proofs.ListLaws.{eqb-self, eqb-sym, never}
 
 -- ---- finding
@@ -41,16 +42,35 @@ find-tally peer request-id (e ∷ b) o q = go (both (eqb peer (e .peer))) (find-
     go (inl a) r = rw a (omega arith)
     go (inr a) r = rw a (r (rw a at q))
 
--- ---- an arrival at what is open, and one that opens
-pub arrive-open : (n peer : ℕ) (b : Model) (o : Open) (c : Chunk) (now-ms : ℕ) → find peer (c .request-id) b ≡ some o
-    → arrives n b peer c now-ms ≡ arrived peer (c .request-id) b (judged (touchedAt (some o) now-ms) c)
-unfolding arrives findsRecord hasFour
-arrive-open n peer b o c now-ms q = rw (ne-eqb (openOf peer b) 0 (omega (arith, find-tally peer (c .request-id) b o q)), q) refl
+-- ---- does the peer find a record?
+pub finds-open : (n peer : ℕ) (b : Model) → 1 ≤ openOf peer b → findsRecord n peer b ≡ true
+unfolding findsRecord
+finds-open n peer b h = ap (λ (none-open : Bool). not none-open || ltb (peersOpen b) n) (ne-eqb (openOf peer b) 0 (omega arith))
 
-pub arrive-new : (n peer : ℕ) (b : Model) (c : Chunk) (now-ms : ℕ) → Room n peer (c .request-id) b
-    → arrives n b peer c now-ms ≡ arrived peer (c .request-id) b (judged (touchedAt none now-ms) c)
+pub finds-fewer : (n peer : ℕ) (b : Model) → peersOpen b < n → findsRecord n peer b ≡ true
+unfolding findsRecord
+finds-fewer n peer b h =
+    ap (λ (fewer : Bool). not (eqb (openOf peer b) 0) || fewer) (lt-ltb (peersOpen b) n h) ∙ or-true (not (eqb (openOf peer b) 0))
+
+-- ---- an arrival at what is open, and one that opens
+pub arrive-open : (shape : Shape) (peer : ℕ) (b : Model) (o : Open) (c : Chunk) (now-ms : ℕ) → find peer (c .request-id) b ≡ some o
+    → arrives shape b peer c now-ms ≡ arrived peer (c .request-id) b (judged shape (touchedAt (some o) now-ms) c)
 unfolding arrives hasFour
-arrive-new n peer b c now-ms r = rw (r .record-found, r .not-open, lt-leb 4 (openOf peer b) (r .fewer)) refl
+arrive-open shape peer b o c now-ms q =
+    let found : findsRecord (shape .«max_peers») peer b ≡ true = finds-open (shape .«max_peers») peer b (find-tally peer (c .request-id) b o q) in
+    rw (found, q) refl
+
+room-free : (peer request-id : ℕ) (b : Model) → find peer request-id b ≡ none → openOf peer b < 4 → hasFour peer request-id b ≡ false
+unfolding hasFour
+room-free peer request-id b free h = ap (λ (o : Option Open). isNone o && leb 4 (openOf peer b)) free ∙ lt-leb 4 (openOf peer b) h
+
+pub arrive-new : (shape : Shape) (peer : ℕ) (b : Model) (c : Chunk) (now-ms : ℕ) → Room (shape .«max_peers») peer (c .request-id) b
+    → arrives shape b peer c now-ms ≡ arrived peer (c .request-id) b (judged shape (touchedAt none now-ms) c)
+unfolding arrives
+arrive-new shape peer b c now-ms r =
+    let found : findsRecord (shape .«max_peers») peer b ≡ true = r .record-found in
+    let free : find peer (c .request-id) b ≡ none = r .not-open in
+    rw (found, room-free peer (c .request-id) b free (r .fewer), free) refl
 
 -- what stays open is found
 pub find-arrived : (peer request-id : ℕ) (b : Model) (o : Open) → find peer request-id (entryOf peer request-id (some o) ++ without peer request-id b) ≡ some o
@@ -83,27 +103,24 @@ module _ (p i : ℕ) (b : Model) (o : Open) (f : find p i b ≡ some o) where
   find-done q j none h = find-without q j h
   find-done q j (some x) h = rw h (find-without q j h)
 
-  find-arrives : (n q : ℕ) (c : Chunk) (now-ms : ℕ) → (eqb p q && eqb i (c .request-id)) ≡ false → find p i (arrives n b q c now-ms .model) ≡ some o
-  unfolding arrives
-  find-arrives n q c now-ms h = go (not (findsRecord n q b)) (hasFour q (c .request-id) b)
-    where
-      go : (u v : Bool) → find p i (cond u (record { model = b; answer = refused 7 0 }) (cond v (record { model = b; answer = refused 6 0 })
-          (arrived q (c .request-id) b (judged (touchedAt (find q (c .request-id) b) now-ms) c))) .model) ≡ some o
-      go true v = f
-      go false true = f
-      go false false = find-done q (c .request-id) (judged (touchedAt (find q (c .request-id) b) now-ms) c .left) h
+  find-arrives : (shape : Shape) (q : ℕ) (c : Chunk) (now-ms : ℕ) → (eqb p q && eqb i (c .request-id)) ≡ false
+      → find p i (arrives shape b q c now-ms .model) ≡ some o
+  find-arrives shape q c now-ms h =
+      arrives-keeps shape b q c now-ms (λ (m : Model). find p i m ≡ some o) f (λ e left. find-done q (c .request-id) left h)
 
   -- Any other act leaves it open, and what is spared then is spared now.
-  pub find-after : (n : ℕ) (a : Act) (acts : List Act) → isArrival p i a ≡ false → Spared p i (o .time) (a ∷ acts)
-      → (find p i (after n b a) ≡ some o) × Spared p i (o .time) acts
-  find-after n (arrive q c now-ms) acts h s = (find-arrives n q c now-ms h, rw h at s)
-  find-after n (cancel q j) acts h s = (find-without q j (s .0), s .1)
-  find-after n (drop q) acts h s = (find-keep (λ (e : Entry). not (isOf q e)) p i b o (λ e k w. away e k) f, s .1)
+  pub find-acted : (shape : Shape) (a : Act) (acts : List Act) → isArrival p i a ≡ false → Spared p i (o .time) (a ∷ acts)
+      → (find p i (acted shape b a) ≡ some o) × Spared p i (o .time) acts
+  find-acted shape (arrive q c now-ms) acts h s = (find-arrives shape q c now-ms h, rw h at s)
+  find-acted shape (cancel q j) acts h s = (find-without q j (s .0), s .1)
+  find-acted shape (drop q) acts h s = (find-keep (λ (e : Entry). not (isOf q e)) p i b o (λ e k w. away e k) f, s .1)
     where
       away : (e : Entry) → isAt p i e ≡ true → not (eqb q (e .peer)) ≡ true
-      away e k = rw (← eqb-true p (e .peer) (and-told (eqb p (e .peer)) (eqb i (e .request-id)) k .0), eqb-sym q p, s .0)
-  find-after n (poll now-ms) acts h s = (find-keep (λ (e : Entry). not (isLate now-ms e)) p i b o (λ e k w. soon e w) f, s .1)
+      away e k =
+          let apart : eqb p q ≡ false = s .0 in
+          rw (← eqb-true p (e .peer) (and-told (eqb p (e .peer)) (eqb i (e .request-id)) k .0), eqb-sym q p, apart)
+  find-acted shape (poll now-ms) acts h s = (find-keep (λ (e : Entry). not (isLate now-ms e)) p i b o (λ e k w. soon e w) f, s .1)
     where
       soon : (e : Entry) → e .state ≡ o → not (leb 3000 (now-ms - e .state .time)) ≡ true
       soon e w = rw (ap (λ (x : Open). x .time) w, lt-leb 3000 (now-ms - o .time) (s .0))
-  find-after n nothing acts h s = (f, s)
+  find-acted shape nothing acts h s = (f, s)

@@ -10,19 +10,19 @@ use borrow.Author.Tests.{eqb-true}
 use lib.Dec.{eqb}
 use lib.ListN.{length, getD, take, drop}
 use lib.Seq.{length-take-le, getD-take, getD-drop}
-use Rattle.seven_bit.proofs.PartLaws.{length-part}
 use Rattle.pe_slot.specs.Slot.{Slot, bodyLen}
 use Rattle.pe_slot.specs.Memory.{slotOf, contents, isSound}
 use Rattle.pe_slot.proofs.FeedTheorems.{sound-told}
 use Rattle.pe_slot.proofs.RecordLaws.{body-ends}
 use Rattle.pe_slot.proofs.SlotMemory.{pieces-length}
+use Rattle.pe_reassembler.specs.declared.shape.Shape.{Shape}
 use Rattle.pe_reassembler.specs.Table.{peerAt, slotAt, isActive}
 use Rattle.pe_reassembler.specs.Feed.{wordsPart, roomPart}
+use Rattle.pe_reassembler.proofs.SlotLengths.{records-length, header-length, arena-length}
 use Rattle.pe_reassembler.proofs.SoundLaws.{SlotSound}
 use Rattle.pe_run.specs.Model.{Entry, Model, entryOf}
 use Rattle.pe_run.specs.Calls.{headerLen, entryBytes}
-use Rattle.pe_run.specs.Demand.{LongEnough}
-use Rattle.pe_run.specs.Run.{Table}
+use Rattle.pe_run.specs.Run.{Table, lent, LongFor}
 use Rattle.pe_run.proofs.Value.{cellOf, cellAt, cellOpen}
 
 -- ---- the open entry
@@ -32,14 +32,16 @@ word-at numbers p s i h = getD-take 9 (drop (slotAt p s) numbers) i 0 h ∙ getD
 abbrev pub peerIn : Table → ℕ → ℕ
 peerIn t p = getD (t .numbers) (peerAt p + 1) 0
 
-abbrev pub entryAt : Table → ℕ → ℕ → Entry
-entryAt t p s =
+abbrev pub entryAt : Shape → Table → ℕ → ℕ → Entry
+entryAt shape t p s =
     record {
       peer = peerIn t p;
       request-id = getD (t .numbers) (slotAt p s + 1) 0;
       state = record {
         time = getD (t .numbers) (slotAt p s + 2) 0;
-        slot = contents (slotOf (wordsPart (t .numbers) p s)) (roomPart 2048 (t .index) p s) (roomPart 4096 (t .headers) p s) (roomPart 65536 (t .arenas) p s);
+        slot =
+            contents (slotOf (wordsPart (t .numbers) p s)) (roomPart (shape .«fragment_records») (t .index) p s)
+            (roomPart (shape .«header_bytes») (t .headers) p s) (roomPart (shape .«tx_bytes») (t .arenas) p s);
       };
     }
 
@@ -48,7 +50,8 @@ entryFor peer active request-id time slot =
     cond (not (eqb active 0)) (record { peer = peer; request-id = request-id; state = record { time = time; slot = slot } } ∷ []) []
 
 open-cell : (peer : ℕ) (words index header arena : List ℕ)
-    → cellOpen peer (cellOf words index header arena) ≡ entryFor peer (getD words 0 0) (getD words 1 0) (getD words 2 0) (contents (slotOf words) index header arena)
+    → cellOpen peer (cellOf words index header arena)
+    ≡ entryFor peer (getD words 0 0) (getD words 1 0) (getD words 2 0) (contents (slotOf words) index header arena)
 unfolding cellOf
 open-cell peer words index header arena = go (eqb (getD words 0 0) 0) (getD words 1 0) (getD words 2 0) (contents (slotOf words) index header arena)
   where
@@ -58,39 +61,42 @@ open-cell peer words index header arena = go (eqb (getD words 0 0) 0) (getD word
     go true request-id time slot = refl
     go false request-id time slot = refl
 
-pub cell-open : (t : Table) (p s : ℕ) → cellOpen (peerIn t p) (cellAt t p s) ≡ cond (isActive (t .numbers) p s) (entryAt t p s ∷ []) []
+pub cell-open : (shape : Shape) (t : Table) (p s : ℕ)
+    → cellOpen (peerIn t p) (cellAt shape t p s) ≡ cond (isActive (t .numbers) p s) (entryAt shape t p s ∷ []) []
 unfolding cellAt isActive
-cell-open t p s =
+cell-open shape t p s =
     let w : List ℕ = wordsPart (t .numbers) p s in
-    let x : Slot = entryAt t p s .state .slot in
+    let x : Slot = entryAt shape t p s .state .slot in
     let z : slotAt p s + 0 ≡ slotAt p s = omega arith in
     let a : getD w 0 0 ≡ getD (t .numbers) (slotAt p s) 0 = word-at (t .numbers) p s 0 (omega arith) ∙ ap (λ (i : ℕ). getD (t .numbers) i 0) z in
-    open-cell (peerIn t p) w (roomPart 2048 (t .index) p s) (roomPart 4096 (t .headers) p s) (roomPart 65536 (t .arenas) p s)
+    open-cell (peerIn t p) w (roomPart (shape .«fragment_records») (t .index) p s) (roomPart (shape .«header_bytes») (t .headers) p s)
+    (roomPart (shape .«tx_bytes») (t .arenas) p s)
     ∙ ap (λ (i : ℕ). entryFor (peerIn t p) i (getD w 1 0) (getD w 2 0) x) a
     ∙ ap (λ (i : ℕ). entryFor (peerIn t p) (getD (t .numbers) (slotAt p s) 0) i (getD w 2 0) x) (word-at (t .numbers) p s 1 (omega arith))
-    ∙ ap (λ (i : ℕ). entryFor (peerIn t p) (getD (t .numbers) (slotAt p s) 0) (getD (t .numbers) (slotAt p s + 1) 0) i x) (word-at (t .numbers) p s 2 (omega arith))
+    ∙ ap (λ (i : ℕ). entryFor (peerIn t p) (getD (t .numbers) (slotAt p s) 0) (getD (t .numbers) (slotAt p s + 1) 0) i x)
+    (word-at (t .numbers) p s 2 (omega arith))
 
 -- ---- what a sound slot's words say of it
-held-length : (words index header arena : List ℕ) → length index ≡ 2048 → isSound 4096 65536 2048 (slotOf words) index ≡ true
+held-length : (H B R : ℕ) (words index header arena : List ℕ) → length index ≡ R → isSound H B R (slotOf words) index ≡ true
     → length (contents (slotOf words) index header arena .pieces) ≡ getD words 7 0
 unfolding contents
-held-length words index header arena l e =
+held-length H B R words index header arena l e =
     let s = sound-told _ _ _ (slotOf words) index e in
     let h : getD words 7 0 ≤ length index = rw l (s .held) in
     pieces-length (take (getD words 7 0) index) arena ∙ length-take-le (getD words 7 0) index h
 
-body-held : (words index header arena : List ℕ) → length arena ≡ 65536 → isSound 4096 65536 2048 (slotOf words) index ≡ true
+body-held : (H B R : ℕ) (words index header arena : List ℕ) → length arena ≡ B → isSound H B R (slotOf words) index ≡ true
     → bodyLen (contents (slotOf words) index header arena .pieces) ≡ getD words 8 0
 unfolding contents
-body-held words index header arena l e =
+body-held H B R words index header arena l e =
     let s = sound-told _ _ _ (slotOf words) index e in
     body-ends (take (getD words 7 0) index) arena (getD words 8 0) (s .ends) (rw l (s .body))
 
-header-held : (words index header arena : List ℕ) → length header ≡ 4096 → isSound 4096 65536 2048 (slotOf words) index ≡ true
+header-held : (H B R : ℕ) (words index header arena : List ℕ) → length header ≡ H → isSound H B R (slotOf words) index ≡ true
     → (getD words 5 0 ≡ 0 → getD words 6 0 ≡ 0)
     → headerLen (contents (slotOf words) index header arena .header) ≡ getD words 6 0
 unfolding contents
-header-held words index header arena l e blank =
+header-held H B R words index header arena l e blank =
     let s = sound-told _ _ _ (slotOf words) index e in
     let h : getD words 6 0 ≤ length header = rw l (s .head) in
     go (eqb (getD words 5 0) 0) refl (length-take-le (getD words 6 0) header h)
@@ -101,31 +107,28 @@ header-held words index header arena l e blank =
     go false q h = h
 
 -- ---- of a table whose memory is long enough
-abbrev SoundAt : Table → ℕ → ℕ → Type 0
-SoundAt t p s = SlotSound 4096 65536 2048 (wordsPart (t .numbers) p s) (roomPart 2048 (t .index) p s)
+abbrev SoundAt : Shape → Table → ℕ → ℕ → Type 0
+SoundAt shape t p s =
+    SlotSound (shape .«header_bytes») (shape .«tx_bytes») (shape .«fragment_records») (wordsPart (t .numbers) p s)
+    (roomPart (shape .«fragment_records») (t .index) p s)
 
-module _ (n : ℕ) (t : Table) (long : LongEnough n t) (p s : ℕ) (h : p < n) (k : s < 4) where
-  index-long : length (roomPart 2048 (t .index) p s) ≡ 2048
-  index-long = let l = long .index in length-part ((4 * p + s) * 2048) 2048 (t .index) (omega arith)
+module _ (shape : Shape) (t : Table) (long : LongFor shape t) (p s : ℕ) (h : p < (shape .«max_peers»)) (k : s < 4) where
+  pub entry-held : SoundAt shape t p s → length (entryAt shape t p s .state .slot .pieces) ≡ getD (t .numbers) (slotAt p s + 7) 0
+  entry-held e =
+      held-length _ _ _ (wordsPart (t .numbers) p s) (roomPart (shape .«fragment_records») (t .index) p s) _ _
+      (records-length shape (lent t [] []) p s long h k) (e .sound)
+      ∙ word-at (t .numbers) p s 7 (omega arith)
 
-  headers-long : length (roomPart 4096 (t .headers) p s) ≡ 4096
-  headers-long = let l = long .headers in length-part ((4 * p + s) * 4096) 4096 (t .headers) (omega arith)
-
-  arenas-long : length (roomPart 65536 (t .arenas) p s) ≡ 65536
-  arenas-long = let l = long .arenas in length-part ((4 * p + s) * 65536) 65536 (t .arenas) (omega arith)
-
-  pub entry-held : SoundAt t p s → length (entryAt t p s .state .slot .pieces) ≡ getD (t .numbers) (slotAt p s + 7) 0
-  entry-held e = held-length (wordsPart (t .numbers) p s) (roomPart 2048 (t .index) p s) _ _ index-long (e .sound) ∙ word-at (t .numbers) p s 7 (omega arith)
-
-  pub entry-bytes : SoundAt t p s
-      → entryBytes (entryAt t p s) ≡ getD (t .numbers) (slotAt p s + 6) 0 + getD (t .numbers) (slotAt p s + 8) 0 + 8 * getD (t .numbers) (slotAt p s + 7) 0
+  pub entry-bytes : SoundAt shape t p s
+      → entryBytes (entryAt shape t p s)
+      ≡ getD (t .numbers) (slotAt p s + 6) 0 + getD (t .numbers) (slotAt p s + 8) 0 + 8 * getD (t .numbers) (slotAt p s + 7) 0
   entry-bytes e =
       let w : List ℕ = wordsPart (t .numbers) p s in
-      let i : List ℕ = roomPart 2048 (t .index) p s in
-      let head : List ℕ = roomPart 4096 (t .headers) p s in
-      let body : List ℕ = roomPart 65536 (t .arenas) p s in
+      let i : List ℕ = roomPart (shape .«fragment_records») (t .index) p s in
+      let head : List ℕ = roomPart (shape .«header_bytes») (t .headers) p s in
+      let body : List ℕ = roomPart (shape .«tx_bytes») (t .arenas) p s in
       ap₂ (λ (x y : ℕ). x + y)
       (ap₂ (λ (x y : ℕ). x + y)
-      (header-held w i head body headers-long (e .sound) (e .headed) ∙ word-at (t .numbers) p s 6 (omega arith))
-      (body-held w i head body arenas-long (e .sound) ∙ word-at (t .numbers) p s 8 (omega arith)))
+      (header-held _ _ _ w i head body (header-length shape (lent t [] []) p s long h k) (e .sound) (e .headed) ∙ word-at (t .numbers) p s 6 (omega arith))
+      (body-held _ _ _ w i head body (arena-length shape (lent t [] []) p s long h k) (e .sound) ∙ word-at (t .numbers) p s 8 (omega arith)))
       (ap (λ (x : ℕ). 8 * x) (entry-held e))

@@ -205,7 +205,8 @@ cut-chunks id header body limit chunks c =
     (λ i l. same i (rw (length-map chunks chunkIn) at l) n)
   where
     same : (i : ℕ) → i < length chunks → length (bodyPieces limit (length header) body) ≡ length chunks
-        → getD (map chunkIn chunks) i (chunkIn []) ≡ getD (chunksFrom id header (length (bodyPieces limit (length header) body)) 1 (bodyPieces limit (length header) body)) i (chunkIn [])
+        → getD (map chunkIn chunks) i (chunkIn [])
+        ≡ getD (chunksFrom id header (length (bodyPieces limit (length header) body)) 1 (bodyPieces limit (length header) body)) i (chunkIn [])
     same i l n =
         let ss = bodyPieces limit (length header) body in
         let r = chunk-reads-back id header body limit (suc i) 4096 (getD chunks i []) (c .each i l) in

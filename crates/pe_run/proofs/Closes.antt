@@ -10,10 +10,10 @@ use lib.Dec.{leb}
 use lib.ListN.{length-map}
 use Rattle.pe_reassembler.specs.Open.{Perm}
 use Rattle.pe_run.specs.Lists.{keep, tally}
-use Rattle.pe_run.specs.Model.{Open, Entry, Model, isOf, isLate, find, isNone, openOf, entryOf, without, cancel, drop, poll, after}
+use Rattle.pe_run.specs.Model.{Open, Entry, Model, isOf, isLate, find, isNone, openOf, entryOf, without}
 use Rattle.pe_run.proofs.ListLaws.{All, NoneOf, keep-append}
 use Rattle.pe_run.proofs.PermLaws.{perm-keep}
-use Rattle.pe_run.proofs.ModelLaws.{without-none, unique-step}
+use Rattle.pe_run.proofs.ModelLaws.{without-none, unique-keep}
 use Rattle.pe_run.proofs.Value.{Cell, Rec, Value, every, isFree, hasId, isOwn, cellOpen, cellsOpen, recsOpen, opens, shut, withCells, withRecs, onFirst, cancelled, shutOpen, dropRec, dropped, pollCell, pollRec, polled, some-cell, cancels, drops}
 use Rattle.pe_run.proofs.Places.{Split, view, onFirst-absent, split-onFirst, split-length, split-all, split-hit}
 use Rattle.pe_run.proofs.Records.{away-tally, away-find, away-drop, recs-append, free-open, isUsed, Apart, Tidy, apart-away, tidy-unbind}
@@ -26,7 +26,8 @@ module _ (now-ms : ℕ) where
 
   poll-cells : (muid : ℕ) (cells : List Cell) → cellsOpen muid (map (pollCell now-ms) cells) ≡ keep inTime (cellsOpen muid cells)
   poll-cells muid [] = refl
-  poll-cells muid (cell ∷ cells) = ap₂ (λ (a b : Model). a ++ b) (one (cell .state)) (poll-cells muid cells) ∙ sym (keep-append inTime (cellOpen muid cell) (cellsOpen muid cells))
+  poll-cells muid (cell ∷ cells) =
+      ap₂ (λ (a b : Model). a ++ b) (one (cell .state)) (poll-cells muid cells) ∙ sym (keep-append inTime (cellOpen muid cell) (cellsOpen muid cells))
     where
       with : Option Open → Cell
       with o = record { tick = cell .tick; request-id = cell .request-id; state = o }
@@ -42,14 +43,16 @@ module _ (now-ms : ℕ) where
   poll-recs : (recs : List Rec) → recsOpen (map (pollRec now-ms) recs) ≡ keep inTime (recsOpen recs)
   poll-recs [] = refl
   poll-recs (r ∷ recs) =
-      ap₂ (λ (a b : Model). a ++ b) (poll-cells (r .muid) (r .cells)) (poll-recs recs) ∙ sym (keep-append inTime (cellsOpen (r .muid) (r .cells)) (recsOpen recs))
+      ap₂ (λ (a b : Model). a ++ b) (poll-cells (r .muid) (r .cells)) (poll-recs recs)
+      ∙ sym (keep-append inTime (cellsOpen (r .muid) (r .cells)) (recsOpen recs))
 
-  poll-idle : (cells : List Cell) → every isFree cells ≡ true → every isFree (map (pollCell now-ms) cells) ≡ true
+  pub poll-idle : (cells : List Cell) → every isFree cells ≡ true → every isFree (map (pollCell now-ms) cells) ≡ true
   poll-idle [] h = refl
   poll-idle (cell ∷ cells) h = go (cell .state) h (poll-idle cells)
     where
       go : (o : Option Open) → (isNone o && every isFree cells) ≡ true → (every isFree cells ≡ true → every isFree (map (pollCell now-ms) cells) ≡ true)
-          → (isFree (pollCell now-ms (record { tick = cell .tick; request-id = cell .request-id; state = o })) && every isFree (map (pollCell now-ms) cells)) ≡ true
+          → (isFree (pollCell now-ms (record { tick = cell .tick; request-id = cell .request-id; state = o })) && every isFree (map (pollCell now-ms) cells))
+          ≡ true
       go none e r = r e
       go (some x) e r = absurd (false≢true e)
 
@@ -65,18 +68,18 @@ module _ (now-ms : ℕ) where
   poll-fours [] a = tt
   poll-fours (r ∷ recs) a = (length-map (r .cells) (pollCell now-ms) ∙ a .0, poll-fours recs (a .1))
 
-pub poll-rel : {n : ℕ} {v : Value} {b : Model} → Rel n v b → (now-ms : ℕ) → Rel n (polled v now-ms) (after n b (poll now-ms))
+pub poll-rel : {n : ℕ} {v : Value} {b : Model} → Rel n v b → (now-ms : ℕ) → Rel n (polled v now-ms) (keep (λ (e : Entry). not (isLate now-ms e)) b)
 unfolding polled
 poll-rel {n} {v} {b} rel now-ms = record {
   size = length-map (v .recs) (pollRec now-ms) ∙ rel .size;
   fours = poll-fours now-ms (v .recs) (rel .fours);
   tidy = poll-tidy now-ms (v .recs) (rel .tidy);
   same = rw (poll-recs now-ms (v .recs)) (perm-keep (inTime now-ms) (rel .same));
-  unique = unique-step n b (poll now-ms) (rel .unique);
+  unique = unique-keep (inTime now-ms) b (rel .unique);
 }
 
 -- ---- a drop
-shut-idle : (cells : List Cell) → every isFree (map shutOpen cells) ≡ true
+pub shut-idle : (cells : List Cell) → every isFree (map shutOpen cells) ≡ true
 shut-idle [] = refl
 shut-idle (cell ∷ cells) = ap₂ (λ (a b : Bool). a && b) (one (cell .state)) (shut-idle cells)
   where
@@ -87,27 +90,29 @@ shut-idle (cell ∷ cells) = ap₂ (λ (a b : Bool). a && b) (one (cell .state))
 shut-open : (muid : ℕ) (cells : List Cell) → cellsOpen muid (map shutOpen cells) ≡ []
 shut-open muid cells = free-open muid (map shutOpen cells) (shut-idle cells)
 
-pub drop-rel : {n : ℕ} {v : Value} {b : Model} → Rel n v b → (peer : ℕ) → Rel n (dropped v peer) (after n b (drop peer))
+pub drop-rel : {n : ℕ} {v : Value} {b : Model} → Rel n v b → (peer : ℕ) → Rel n (dropped v peer) (keep (λ (e : Entry). not (isOf peer e)) b)
 unfolding dropped
 drop-rel {n} {v} {b} rel peer = go (view (isOwn peer) (v .recs))
   where
     others : Entry → Bool
     others e = not (isOf peer e)
 
-    go : Apart peer (v .recs) ⊎ Split (isOwn peer) (v .recs) → Rel n (withRecs v (onFirst (isOwn peer) dropRec (v .recs))) (after n b (drop peer))
+    go : Apart peer (v .recs) ⊎ Split (isOwn peer) (v .recs)
+        → Rel n (withRecs v (onFirst (isOwn peer) dropRec (v .recs))) (keep (λ (e : Entry). not (isOf peer e)) b)
     go (inl a) = rw (onFirst-absent (isOwn peer) dropRec (v .recs) a) (record {
       size = rel .size;
       fours = rel .fours;
       tidy = rel .tidy;
       same = subst (λ (l : Model). Perm l (keep others b)) (away-drop peer (opens v) (apart-away peer (v .recs) (rel .tidy) a)) (perm-keep others (rel .same));
-      unique = unique-step n b (drop peer) (rel .unique);
+      unique = unique-keep (λ (e : Entry). not (isOf peer e)) b (rel .unique);
     })
     go (inr s) = rw (split-onFirst s dropRec) (record {
       size = split-length s (dropRec (s .hit)) ∙ rel .size;
       fours = split-all s FourCells (dropRec (s .hit)) (rel .fours) (length-map (s .hit .cells) shutOpen ∙ split-hit s FourCells (rel .fours));
-      tidy = tidy-unbind (s .hit .muid) (s .before) (s .hit) (s .after) (map shutOpen (s .hit .cells)) (own-split peer (rel .tidy) s) (shut-idle (s .hit .cells));
+      tidy =
+          tidy-unbind (s .hit .muid) (s .before) (s .hit) (s .after) (map shutOpen (s .hit .cells)) (own-split peer (rel .tidy) s) (shut-idle (s .hit .cells));
       same = subst (λ (l : Model). Perm l (keep others b)) left (perm-keep others (rel .same));
-      unique = unique-step n b (drop peer) (rel .unique);
+      unique = unique-keep (λ (e : Entry). not (isOf peer e)) b (rel .unique);
     })
       where
         left : keep others (opens v) ≡ recsOpen (s .before ++ dropRec (s .hit) ∷ s .after)
@@ -120,7 +125,7 @@ drop-rel {n} {v} {b} rel peer = go (view (isOwn peer) (v .recs))
 cancel-absent : {n : ℕ} {v : Value} {b : Model} → Rel n v b → (peer id : ℕ) → find peer id (opens v) ≡ none → Rel n v (without peer id b)
 cancel-absent {b = b} rel peer id h = rw (without-none peer id b (find-is rel peer id ∙ h)) rel
 
-pub cancel-rel : {n : ℕ} {v : Value} {b : Model} → Rel n v b → (peer id : ℕ) → Rel n (cancelled v peer id) (after n b (cancel peer id))
+pub cancel-rel : {n : ℕ} {v : Value} {b : Model} → Rel n v b → (peer id : ℕ) → Rel n (cancelled v peer id) (without peer id b)
 unfolding cancelled
 cancel-rel {n} {v} {b} rel peer id = go (view (isOwn peer) (v .recs))
   where
@@ -128,13 +133,16 @@ cancel-rel {n} {v} {b} rel peer id = go (view (isOwn peer) (v .recs))
     change r = withCells r (onFirst (hasId id) shut (r .cells))
 
     go : Apart peer (v .recs) ⊎ Split (isOwn peer) (v .recs) → Rel n (withRecs v (onFirst (isOwn peer) change (v .recs))) (without peer id b)
-    go (inl a) = rw (onFirst-absent (isOwn peer) change (v .recs) a) (cancel-absent rel peer id (away-find peer id (opens v) (apart-away peer (v .recs) (rel .tidy) a)))
+    go (inl a) =
+        rw (onFirst-absent (isOwn peer) change (v .recs) a) (cancel-absent rel peer id (away-find peer id (opens v) (apart-away peer (v .recs) (rel .tidy) a)))
     go (inr s) = inner (view (hasId id) (s .hit .cells))
       where
-        changes : (cells : List Cell) → onFirst (hasId id) shut (s .hit .cells) ≡ cells → onFirst (isOwn peer) change (v .recs) ≡ s .before ++ withCells (s .hit) cells ∷ s .after
+        changes : (cells : List Cell) → onFirst (hasId id) shut (s .hit .cells) ≡ cells
+            → onFirst (isOwn peer) change (v .recs) ≡ s .before ++ withCells (s .hit) cells ∷ s .after
         changes cells e = split-onFirst s change ∙ ap (λ (l : List Cell). s .before ++ withCells (s .hit) l ∷ s .after) e
 
-        inner : NoneOf (hasId id) (s .hit .cells) ⊎ Split (hasId id) (s .hit .cells) → Rel n (withRecs v (onFirst (isOwn peer) change (v .recs))) (without peer id b)
+        inner : NoneOf (hasId id) (s .hit .cells) ⊎ Split (hasId id) (s .hit .cells)
+            → Rel n (withRecs v (onFirst (isOwn peer) change (v .recs))) (without peer id b)
         inner (inl a) =
             rw (changes (s .hit .cells) (onFirst-absent (hasId id) shut (s .hit .cells) a) ∙ sym (s .parts))
             (cancel-absent rel peer id (own-find peer (rel .tidy) s id a))

@@ -5,52 +5,70 @@ use mathlib.Core.List.{List, [], _∷_, map}
 use mathlib.Core.Path.{_≡_, refl}
 use native.Mathlib.Omega.{arith}
 use lib.Dec.{eqb}
+use Rattle.pe_reassembler.specs.declared.shape.Shape.{Shape}
 use Rattle.pe_reassembler.specs.Open.{Shown, openSlots}
 use Rattle.pe_run.specs.Lists.{tally}
-use Rattle.pe_run.specs.Model.{Entry, Model, isOf, after}
+use Rattle.pe_run.specs.Model.{Model, isOf, acted}
 use Rattle.pe_run.specs.Calls.{Call, Answer, actOf, modelFrom, modelAfter, shownOf, AllRight}
-use Rattle.pe_run.specs.Run.{Table, fullSize, made, step, tableFrom, Run}
-use Rattle.pe_run.specs.Demand.{LongEnough, Demand3, Demand}
+use Rattle.pe_run.specs.Run.{Table, LongFor, made, step, tableFrom, Run}
+use Rattle.pe_run.specs.Demand.{fullSize, Demand}
 use Rattle.pe_run.proofs.Value.{valueOf, opens}
 use Rattle.pe_run.proofs.ModelLaws.{Four, four-step}
 use Rattle.pe_run.proofs.RowLaws.{open-rows}
 use Rattle.pe_run.proofs.Refine.{four-open}
 use Rattle.pe_run.proofs.Kept.{Kept, kept-new, step-kept, right}
+use Rattle.pe_run.proofs.Ahead.{long-enough}
 use Rattle.pe_run.proofs.Deliver.{deliver}
-
-module _ (n : ℕ) (few : n ≤ 16) where
-  kept-all : (t : Table) (b : Model) (calls : List Call) → Kept n t b → Kept n (tableFrom n t calls) (modelFrom n b calls)
-  kept-all t b [] k = k
-  kept-all t b (c ∷ calls) k = kept-all (step n t c) (after n b (actOf n c)) calls (step-kept n t b few k c)
-
-  all-right : (t : Table) (b : Model) (calls : List Call) (told : List Answer) → Kept n t b → Run n t calls told → AllRight n b calls told
-  all-right t b [] [] k r = tt
-  all-right t b [] (a ∷ told) k r = r
-  all-right t b (c ∷ calls) [] k r = r
-  all-right t b (c ∷ calls) (a ∷ told) k r =
-      (right n t b few k c a (r .0), all-right (step n t c) (after n b (actOf n c)) calls told (step-kept n t b few k c) (r .1))
-
-four-all : (n : ℕ) (b : Model) (calls : List Call) → Four b → Four (modelFrom n b calls)
-four-all n b [] f = f
-four-all n b (c ∷ calls) f = four-all n (after n b (actOf n c)) calls (four-step n b (actOf n c) f)
 
 -- of the rows that show what is open, as many are a peer's
 tally-shown : (peer : ℕ) (b : Model) → tally (λ (r : Shown). eqb peer (r .peer)) (map shownOf b) ≡ tally (isOf peer) b
 tally-shown peer [] = refl
 tally-shown peer (e ∷ b) = rw (tally-shown peer b)
 
+-- ---- any shape
+module _ (shape : Shape) where
+  pub kept-all : (t : Table) (b : Model) (calls : List Call) → Kept shape t b → Kept shape (tableFrom shape t calls) (modelFrom shape b calls)
+  kept-all t b [] k = k
+  kept-all t b (c ∷ calls) k = kept-all (step shape t c) (acted shape b (actOf shape c)) calls (step-kept shape t b k c)
+
+  all-right : (t : Table) (b : Model) (calls : List Call) (told : List Answer) → Kept shape t b → Run shape t calls told → AllRight shape b calls told
+  all-right t b [] [] k r = tt
+  all-right t b [] (a ∷ told) k r = r
+  all-right t b (c ∷ calls) [] k r = r
+  all-right t b (c ∷ calls) (a ∷ told) k r =
+      (right shape t b k c a (r .0), all-right (step shape t c) (acted shape b (actOf shape c)) calls told (step-kept shape t b k c) (r .1))
+
+  -- every answer is the model's, before and from any moment on
+  pub answers-right : (t : Table) → LongFor shape t → (before calls : List Call) (told : List Answer)
+      → Run shape (tableFrom shape (made shape t) before) calls told → AllRight shape (modelAfter shape before) calls told
+  answers-right t long before calls told r =
+      all-right (tableFrom shape (made shape t) before) (modelAfter shape before) calls told (kept-all (made shape t) [] before (kept-new shape t long)) r
+
+  four-all : (b : Model) (calls : List Call) → Four b → Four (modelFrom shape b calls)
+  four-all b [] f = f
+  four-all b (c ∷ calls) f = four-all (acted shape b (actOf shape c)) calls (four-step shape b (actOf shape c) f)
+
+  -- no peer ever has more than four slots open
+  pub four-slots : (t : Table) → LongFor shape t → (calls : List Call) (peer : ℕ)
+      → tally (λ (r : Shown). eqb peer (r .peer)) (openSlots shape (tableFrom shape (made shape t) calls .numbers)) ≤ 4
+  four-slots t long calls peer =
+      let k = kept-all (made shape t) [] calls (kept-new shape t long) in
+      rw (
+        open-rows shape (tableFrom shape (made shape t) calls) (k .long) (k .sound),
+        tally-shown peer (opens (valueOf shape (tableFrom shape (made shape t) calls))),
+      )
+      (four-open (k .rel) (four-all [] calls (λ p. omega arith)) peer)
+
+-- ---- full size
 pub demand : Demand
 demand n t few long =
     record {
-      answers = λ calls told r. all-right n few (made n t) [] calls told start r;
-      four = λ calls peer.
-          let k = kept-all n few (made n t) [] calls start in
-          rw (open-rows n (tableFrom n (made n t) calls) (k .long) (k .sound), tally-shown peer (opens (valueOf n (tableFrom n (made n t) calls))))
-          (four-open (k .rel) (four-all n [] calls (λ p. omega arith)) peer);
+      answers = λ calls told r. answers-right (fullSize n) t enough [] calls told r;
+      four = four-slots (fullSize n) t enough;
       delivery = λ before peer request-id header body limit first rest told d r.
-          deliver n (modelAfter n before) peer request-id header body limit first rest told d
-          (all-right n few (tableFrom n (made n t) before) (modelAfter n before) (first ∷ rest) told (kept-all n few (made n t) [] before start) r);
+          deliver n (modelAfter (fullSize n) before) peer request-id header body limit first rest told d
+          (answers-right (fullSize n) t enough before (first ∷ rest) told r);
     }
   where
-    start : Kept n (made n t) []
-    start = kept-new n t few long
+    enough : LongFor (fullSize n) t
+    enough = long-enough n t few long

@@ -29,4 +29,6 @@ pub mod Carried
 pub mod Deliver
 pub mod Kept
 pub mod Demand
+pub mod Answered
 pub mod Instance
+pub mod InstanceTold

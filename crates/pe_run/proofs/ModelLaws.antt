@@ -2,7 +2,7 @@
 -- Assumes nothing.
 use Prim.Native.Nat.{ℕ, suc, _≤_, _<_}
 use mathlib.Core.Bool.{Bool, true, false, cond, not, _&&_}
-use mathlib.Core.List.{List, [], _∷_, _++_}
+use mathlib.Core.List.{[], _∷_, _++_}
 use mathlib.Core.Logic.{_⊎_, inl, inr}
 use mathlib.Core.Option.{Option, none, some}
 use mathlib.Core.Path.{_≡_, refl, sym, ap, ap₂, _∙_, subst}
@@ -13,8 +13,9 @@ use Rattle.seven_bit.specs.Reply.{refused}
 use Rattle.seven_bit.proofs.ReplyLaws.{both, and-told}
 use Rattle.pe_frame.specs.Chunk.{Chunk}
 use Rattle.pe_reassembler.specs.Open.{Perm, empty, skip, swap, then}
+use Rattle.pe_reassembler.specs.declared.shape.Shape.{Shape}
 use Rattle.pe_run.specs.Lists.{keep, tally}
-use Rattle.pe_run.specs.Model.{Open, Entry, Model, isAt, isOf, isLate, find, findsRecord, hasFour, touchedAt, judged, entryOf, without, arrived, arrives, Act, arrive, cancel, drop, poll, nothing, after}
+use Rattle.pe_run.specs.Model.{Open, Entry, Model, isAt, isOf, isLate, find, findsRecord, hasFour, touchedAt, judged, entryOf, without, Arrived, arrived, arrives, Act, arrive, cancel, drop, poll, nothing, acted}
 use Rattle.pe_run.proofs.ListLaws.{eqb-sym, tally-keep}
 
 -- ---- finding
@@ -73,7 +74,8 @@ Unique (e ∷ b) = (find (e .peer) (e .request-id) b ≡ none) × Unique b
 swap-find : (peer id : ℕ) (x y : Entry) (b : Model) → isAt (x .peer) (x .request-id) y ≡ false → find peer id (x ∷ y ∷ b) ≡ find peer id (y ∷ x ∷ b)
 swap-find peer id x y b h = go (both (isAt peer id x)) (both (isAt peer id y))
   where
-    go : (isAt peer id x ≡ true) ⊎ (isAt peer id x ≡ false) → (isAt peer id y ≡ true) ⊎ (isAt peer id y ≡ false) → find peer id (x ∷ y ∷ b) ≡ find peer id (y ∷ x ∷ b)
+    go : (isAt peer id x ≡ true) ⊎ (isAt peer id x ≡ false) → (isAt peer id y ≡ true) ⊎ (isAt peer id y ≡ false)
+        → find peer id (x ∷ y ∷ b) ≡ find peer id (y ∷ x ∷ b)
     go (inl a) (inl d) = let z : isAt peer id y ≡ false = at-both peer id x y a ∙ h in cc
     go (inl a) (inr d) = rw (a, d)
     go (inr a) (inl d) = rw (a, d)
@@ -98,7 +100,7 @@ perm-find peer id p u = perm-both p u .0 peer id
 pub perm-unique : {xs ys : Model} → Perm xs ys → Unique xs → Unique ys
 perm-unique p u = perm-both p u .1
 
-unique-keep : (test : Entry → Bool) (b : Model) → Unique b → Unique (keep test b)
+pub unique-keep : (test : Entry → Bool) (b : Model) → Unique b → Unique (keep test b)
 unique-keep test [] u = tt
 unique-keep test (e ∷ b) u = go (test e) (unique-keep test b (u .1))
   where
@@ -110,26 +112,38 @@ pub unique-arrived : (peer id : ℕ) (b : Model) (o : Option Open) → Unique b 
 unique-arrived peer id b none u = unique-keep (λ (e : Entry). not (isAt peer id e)) b u
 unique-arrived peer id b (some x) u = (find-without peer id b, unique-keep (λ (e : Entry). not (isAt peer id e)) b u)
 
--- what holds of the model, and of it with what a chunk leaves, holds after a chunk
-arrives-keeps : (P : Model → Type 0) (n : ℕ) (b : Model) (peer : ℕ) (c : Chunk) (now-ms : ℕ) → P b
-    → (hasFour peer (c .request-id) b ≡ false → (o : Option Open) → P (entryOf peer (c .request-id) o ++ without peer (c .request-id) b))
-    → P (arrives n b peer c now-ms .model)
-unfolding arrives
-arrives-keeps P n b peer c now-ms same changed = go (not (findsRecord n peer b)) (hasFour peer (c .request-id) b) refl
-  where
-    go : (u v : Bool) → hasFour peer (c .request-id) b ≡ v
-        → P (cond u (record { model = b; answer = refused 7 0 }) (cond v (record { model = b; answer = refused 6 0 })
-        (arrived peer (c .request-id) b (judged (touchedAt (find peer (c .request-id) b) now-ms) c))) .model)
-    go true v e = same
-    go false true e = same
-    go false false e = changed e (judged (touchedAt (find peer (c .request-id) b) now-ms) c .left)
+-- what a chunk does: it is refused by 7 or 6, or it reaches its slot
+module _ (shape : Shape) (b : Model) (peer : ℕ) (c : Chunk) (now-ms : ℕ) where
+  abbrev Reaches : Type 0
+  Reaches =
+      (hasFour peer (c .request-id) b ≡ false)
+      × (arrives shape b peer c now-ms ≡ arrived peer (c .request-id) b (judged shape (touchedAt (find peer (c .request-id) b) now-ms) c))
 
-pub unique-step : (n : ℕ) (b : Model) (act : Act) → Unique b → Unique (after n b act)
-unique-step n b (arrive peer c now-ms) u = arrives-keeps Unique n b peer c now-ms u (λ e o. unique-arrived peer (c .request-id) b o u)
-unique-step n b (cancel peer id) u = unique-keep (λ (e : Entry). not (isAt peer id e)) b u
-unique-step n b (drop peer) u = unique-keep (λ (e : Entry). not (isOf peer e)) b u
-unique-step n b (poll now-ms) u = unique-keep (λ (e : Entry). not (isLate now-ms e)) b u
-unique-step n b nothing u = u
+  arrives-cases : (arrives shape b peer c now-ms ≡ record { model = b; answer = refused 7 0 })
+      ⊎ ((arrives shape b peer c now-ms ≡ record { model = b; answer = refused 6 0 }) ⊎ Reaches)
+  unfolding arrives
+  arrives-cases = go (both (findsRecord (shape .«max_peers») peer b)) (both (hasFour peer (c .request-id) b))
+    where
+      go : (findsRecord (shape .«max_peers») peer b ≡ true) ⊎ (findsRecord (shape .«max_peers») peer b ≡ false)
+          → (hasFour peer (c .request-id) b ≡ true) ⊎ (hasFour peer (c .request-id) b ≡ false)
+          → (arrives shape b peer c now-ms ≡ record { model = b; answer = refused 7 0 })
+          ⊎ ((arrives shape b peer c now-ms ≡ record { model = b; answer = refused 6 0 }) ⊎ Reaches)
+      go (inr e) k = inl (rw e refl)
+      go (inl e) (inl k) = inr (inl (rw (e, k) refl))
+      go (inl e) (inr k) = inr (inr (k, rw (e, k) refl))
+
+  -- what holds of the model, and of it with what a chunk leaves, holds after a chunk
+  pub arrives-keeps : (P : Model → Type 0) → P b
+      → (hasFour peer (c .request-id) b ≡ false → (o : Option Open) → P (entryOf peer (c .request-id) o ++ without peer (c .request-id) b))
+      → P (arrives shape b peer c now-ms .model)
+  arrives-keeps P same changed = go arrives-cases
+    where
+      go : (arrives shape b peer c now-ms ≡ record { model = b; answer = refused 7 0 })
+          ⊎ ((arrives shape b peer c now-ms ≡ record { model = b; answer = refused 6 0 }) ⊎ Reaches) → P (arrives shape b peer c now-ms .model)
+      go (inl e) = subst (λ (a : Arrived). P (a .model)) (sym e) same
+      go (inr (inl e)) = subst (λ (a : Arrived). P (a .model)) (sym e) same
+      go (inr (inr e)) =
+          subst (λ (a : Arrived). P (a .model)) (sym (e .1)) (changed (e .0) (judged shape (touchedAt (find peer (c .request-id) b) now-ms) c .left))
 
 -- ---- at most four
 abbrev pub Four : Model → Type 0
@@ -144,8 +158,10 @@ without-fewer peer id [] x h = let z : _≡_ {A = ℕ} 0 1 = cc in omega arith
 without-fewer peer id (e ∷ b) x h = go (both (isAt peer id e)) (both (eqb peer (e .peer))) (without-fewer peer id b x)
   where
     go : (isAt peer id e ≡ true) ⊎ (isAt peer id e ≡ false) → (eqb peer (e .peer) ≡ true) ⊎ (eqb peer (e .peer) ≡ false)
-        → (find peer id b ≡ some x → tally (isOf peer) (without peer id b) < tally (isOf peer) b) → tally (isOf peer) (without peer id (e ∷ b)) < tally (isOf peer) (e ∷ b)
-    go (inl a) d r = rw (a, and-told (eqb peer (e .peer)) (eqb id (e .request-id)) a .0) (omega (arith, tally-keep (isOf peer) (λ (y : Entry). not (isAt peer id y)) b))
+        → (find peer id b ≡ some x → tally (isOf peer) (without peer id b) < tally (isOf peer) b)
+        → tally (isOf peer) (without peer id (e ∷ b)) < tally (isOf peer) (e ∷ b)
+    go (inl a) d r =
+        rw (a, and-told (eqb peer (e .peer)) (eqb id (e .request-id)) a .0) (omega (arith, tally-keep (isOf peer) (λ (y : Entry). not (isAt peer id y)) b))
     go (inr a) (inl d) r = rw (a, d) (omega (arith, r (rw a at h)))
     go (inr a) (inr d) r = rw (a, d) (r (rw a at h))
 
@@ -154,18 +170,20 @@ unfolding hasFour
 four-arrived peer id b none h e other = four-keep (λ (y : Entry). not (isAt peer id y)) b h other
 four-arrived peer id b (some y) h e other = go (both (eqb other peer)) (find peer id b) refl
   where
-    go : (eqb other peer ≡ true) ⊎ (eqb other peer ≡ false) → (o : Option Open) → find peer id b ≡ o → tally (isOf other) (entryOf peer id (some y) ++ without peer id b) ≤ 4
+    go : (eqb other peer ≡ true) ⊎ (eqb other peer ≡ false) → (o : Option Open) → find peer id b ≡ o
+        → tally (isOf other) (entryOf peer id (some y) ++ without peer id b) ≤ 4
     go (inl a) (some x) w =
-        rw a (subst (λ (k : ℕ). suc (tally (isOf k) (without peer id b)) ≤ 4) (sym (eqb-true other peer a)) (omega (arith, without-fewer peer id b x w, h peer)))
+        rw a (subst (λ (k : ℕ). suc (tally (isOf k) (without peer id b)) ≤ 4) (sym (eqb-true other peer a))
+        (omega (arith, without-fewer peer id b x w, h peer)))
     go (inl a) none w =
         let spare : leb 4 (tally (isOf peer) b) ≡ false = rw w at e in
         rw a (subst (λ (k : ℕ). suc (tally (isOf k) (without peer id b)) ≤ 4) (sym (eqb-true other peer a))
         (omega (arith, leb-false 4 (tally (isOf peer) b) spare, tally-keep (isOf peer) (λ (z : Entry). not (isAt peer id z)) b)))
     go (inr a) o w = rw a (four-keep (λ (z : Entry). not (isAt peer id z)) b h other)
 
-pub four-step : (n : ℕ) (b : Model) (act : Act) → Four b → Four (after n b act)
-four-step n b (arrive peer c now-ms) h = arrives-keeps Four n b peer c now-ms h (λ e o. four-arrived peer (c .request-id) b o h e)
-four-step n b (cancel peer id) h = four-keep (λ (e : Entry). not (isAt peer id e)) b h
-four-step n b (drop peer) h = four-keep (λ (e : Entry). not (isOf peer e)) b h
-four-step n b (poll now-ms) h = four-keep (λ (e : Entry). not (isLate now-ms e)) b h
-four-step n b nothing h = h
+pub four-step : (shape : Shape) (b : Model) (act : Act) → Four b → Four (acted shape b act)
+four-step shape b (arrive peer c now-ms) h = arrives-keeps shape b peer c now-ms Four h (λ e o. four-arrived peer (c .request-id) b o h e)
+four-step shape b (cancel peer id) h = four-keep (λ (e : Entry). not (isAt peer id e)) b h
+four-step shape b (drop peer) h = four-keep (λ (e : Entry). not (isOf peer e)) b h
+four-step shape b (poll now-ms) h = four-keep (λ (e : Entry). not (isLate now-ms e)) b h
+four-step shape b nothing h = h

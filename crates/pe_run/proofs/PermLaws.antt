@@ -11,7 +11,7 @@ use lib.Dec.{eqb}
 use lib.ListN.{length}
 use Rattle.seven_bit.proofs.ReplyLaws.{both}
 use Rattle.pe_reassembler.specs.Open.{Perm, empty, skip, swap, then}
-use Rattle.pe_run.specs.Lists.{keep, tally, memb, kinds}
+use Rattle.pe_run.specs.Lists.{keep, tally, memb, different}
 use Rattle.pe_run.proofs.ListLaws.{eqb-sym, or-false-left, or-false-right, All, Distinct}
 
 module _ {A : Type 0} where
@@ -48,7 +48,8 @@ module _ {A : Type 0} where
       each x (y ∷ xs) ∙ ap (f x) (each y xs) ∙ turn x y (g xs) ∙ sym (each y (x ∷ xs) ∙ ap (f y) (each x xs))
   perm-fold f turn g each (then p q) = perm-fold f turn g each p ∙ perm-fold f turn g each q
 
-  pub perm-sum : (weight : A → ℕ) (sum : List A → ℕ) → ((x : A) (xs : List A) → sum (x ∷ xs) ≡ weight x + sum xs) → {xs ys : List A} → Perm xs ys → sum xs ≡ sum ys
+  pub perm-sum : (weight : A → ℕ) (sum : List A → ℕ) → ((x : A) (xs : List A) → sum (x ∷ xs) ≡ weight x + sum xs) → {xs ys : List A} → Perm xs ys
+      → sum xs ≡ sum ys
   perm-sum weight sum each p = perm-fold (λ (x : A) (n : ℕ). weight x + n) (λ x y n. turn (weight x) (weight y) n) sum each p
     where
       turn : (a b n : ℕ) → a + (b + n) ≡ b + (a + n)
@@ -103,18 +104,19 @@ perm-memb n p = perm-fold (λ (x : ℕ) (b : Bool). cond (eqb n x) true b) (λ x
     turn false true c = refl
     turn false false c = refl
 
-pub perm-kinds : {xs ys : List ℕ} → Perm xs ys → kinds xs ≡ kinds ys
-perm-kinds empty = refl
-perm-kinds (skip {x = x} p) = ap₂ (λ (b : Bool) (n : ℕ). cond b n (suc n)) (perm-memb x p) (perm-kinds p)
-perm-kinds (swap {x = x} {y = y} {xs = xs}) = go (both (eqb x y)) (both (memb x xs)) (both (memb y xs))
+pub perm-different : {xs ys : List ℕ} → Perm xs ys → different xs ≡ different ys
+perm-different empty = refl
+perm-different (skip {x = x} p) = ap₂ (λ (b : Bool) (n : ℕ). cond b n (suc n)) (perm-memb x p) (perm-different p)
+perm-different (swap {x = x} {y = y} {xs = xs}) = go (both (eqb x y)) (both (memb x xs)) (both (memb y xs))
   where
-    go : (eqb x y ≡ true) ⊎ (eqb x y ≡ false) → (memb x xs ≡ true) ⊎ (memb x xs ≡ false) → (memb y xs ≡ true) ⊎ (memb y xs ≡ false) → kinds (x ∷ y ∷ xs) ≡ kinds (y ∷ x ∷ xs)
+    go : (eqb x y ≡ true) ⊎ (eqb x y ≡ false) → (memb x xs ≡ true) ⊎ (memb x xs ≡ false) → (memb y xs ≡ true) ⊎ (memb y xs ≡ false)
+        → different (x ∷ y ∷ xs) ≡ different (y ∷ x ∷ xs)
     go (inl e) b c = rw (eqb-true x y e)
     go (inr e) (inl b) (inl c) = rw (eqb-sym y x, e, b, c)
     go (inr e) (inl b) (inr c) = rw (eqb-sym y x, e, b, c)
     go (inr e) (inr b) (inl c) = rw (eqb-sym y x, e, b, c)
     go (inr e) (inr b) (inr c) = rw (eqb-sym y x, e, b, c)
-perm-kinds (then p q) = perm-kinds p ∙ perm-kinds q
+perm-different (then p q) = perm-different p ∙ perm-different q
 
 neither : (a b : Bool) → a ≡ false → b ≡ false → cond a true b ≡ false
 neither a b p q = rw (p, q)

@@ -32,17 +32,21 @@ insert-comm p q (x ∷ xs) d =
     go (leb (p .number) (q .number)) (leb (q .number) (p .number)) (leb (x .number) (p .number)) (leb (x .number) (q .number)) refl refl refl refl
     (insert-comm p q xs d)
   where
-    go : (a b c e : Bool) → leb (p .number) (q .number) ≡ a → leb (q .number) (p .number) ≡ b → leb (x .number) (p .number) ≡ c → leb (x .number) (q .number) ≡ e
+    go : (a b c e : Bool) → leb (p .number) (q .number) ≡ a → leb (q .number) (p .number) ≡ b → leb (x .number) (p .number) ≡ c
+        → leb (x .number) (q .number) ≡ e
         → insert p (insert q xs) ≡ insert q (insert p xs) → insert p (insert q (x ∷ xs)) ≡ insert q (insert p (x ∷ xs))
-    go true true c e h₁ h₂ h₃ h₄ ih = absurd (eqb-false (p .number) (q .number) d (omega (arith, leb-true (p .number) (q .number) h₁, leb-true (q .number) (p .number) h₂)))
+    go true true c e h₁ h₂ h₃ h₄ ih =
+        absurd (eqb-false (p .number) (q .number) d (omega (arith, leb-true (p .number) (q .number) h₁, leb-true (q .number) (p .number) h₂)))
     go false false c e h₁ h₂ h₃ h₄ ih = absurd (omega (arith, leb-false (p .number) (q .number) h₁, leb-false (q .number) (p .number) h₂))
     go true false true true h₁ h₂ h₃ h₄ ih = simp (h₃, h₄, ih)
-    go true false true false h₁ h₂ h₃ h₄ ih = absurd (omega (arith, leb-true (p .number) (q .number) h₁, leb-true (x .number) (p .number) h₃, leb-false (x .number) (q .number) h₄))
+    go true false true false h₁ h₂ h₃ h₄ ih =
+        absurd (omega (arith, leb-true (p .number) (q .number) h₁, leb-true (x .number) (p .number) h₃, leb-false (x .number) (q .number) h₄))
     go true false false true h₁ h₂ h₃ h₄ ih = simp (h₁, h₃, h₄)
     go true false false false h₁ h₂ h₃ h₄ ih = simp (h₁, h₂, h₃, h₄)
     go false true true true h₁ h₂ h₃ h₄ ih = simp (h₃, h₄, ih)
     go false true true false h₁ h₂ h₃ h₄ ih = simp (h₂, h₃, h₄)
-    go false true false true h₁ h₂ h₃ h₄ ih = absurd (omega (arith, leb-true (q .number) (p .number) h₂, leb-false (x .number) (p .number) h₃, leb-true (x .number) (q .number) h₄))
+    go false true false true h₁ h₂ h₃ h₄ ih =
+        absurd (omega (arith, leb-true (q .number) (p .number) h₂, leb-false (x .number) (p .number) h₃, leb-true (x .number) (q .number) h₄))
     go false true false false h₁ h₂ h₃ h₄ ih = simp (h₁, h₂, h₃, h₄)
 
 -- Pieces with distinct numbers stand in the same order however they came.

@@ -21,7 +21,8 @@ module _ {A : Type 0} where
   pub tab-same : (f g : ℕ → A) (i k : ℕ) → ((p : ℕ) → i ≤ p → p < i + k → f p ≡ g p) → tab f i k ≡ tab g i k
   unfolding tab
   tab-same f g i zero h = refl
-  tab-same f g i (suc k) h = ap₂ (λ (x : A) (l : List A). x ∷ l) (h i (omega arith) (omega arith)) (tab-same f g (suc i) k (λ p a b. h p (omega arith) (omega arith)))
+  tab-same f g i (suc k) h =
+      ap₂ (λ (x : A) (l : List A). x ∷ l) (h i (omega arith) (omega arith)) (tab-same f g (suc i) k (λ p a b. h p (omega arith) (omega arith)))
 
   -- one element at every place
   pub tab-replicate : (f : ℕ → A) (x : A) (i k : ℕ) → ((p : ℕ) → p < i + k → f p ≡ x) → tab f i k ≡ replicate k x
@@ -46,7 +47,8 @@ module _ {A : Type 0} where
   tab-set f g i (suc k) (suc j) l h =
       let e : suc i + j ≡ i + suc j = omega arith in
       ap₂ (λ (x : A) (xs : List A). x ∷ xs) (h i (omega arith) (omega arith) (λ q. omega arith))
-      (tab-set f g (suc i) k j (omega arith) (λ p a b n. h p (omega arith) (omega arith) (λ q. n (omega arith))) ∙ ap (λ (x : ℕ). set (tab f (suc i) k) j (g x)) e)
+      (tab-set f g (suc i) k j (omega arith) (λ p a b n. h p (omega arith) (omega arith) (λ q. n (omega arith)))
+      ∙ ap (λ (x : ℕ). set (tab f (suc i) k) j (g x)) e)
 
   -- every place changed
   pub tab-map : (f g : ℕ → A) (change : A → A) (i k : ℕ) → ((p : ℕ) → p < i + k → g p ≡ change (f p)) → tab g i k ≡ map change (tab f i k)
@@ -94,7 +96,8 @@ module _ {A : Type 0} (test : A → Bool) where
           → cond b (g x ∷ l) (x ∷ onFirst test g l) ≡ set (x ∷ l) i (g (getD (x ∷ l) i d))
       go true o w q r = subst (λ (j : ℕ). g x ∷ l ≡ set (x ∷ l) j (g (getD (x ∷ l) j d))) (let z : 0 ≡ i = cc in z) refl
       go false none w q r = cc
-      go false (some j) w q r = subst (λ (k : ℕ). x ∷ onFirst test g l ≡ set (x ∷ l) k (g (getD (x ∷ l) k d))) (let z : suc j ≡ i = cc in z) (ap (λ (m : List A). x ∷ m) (r j w))
+      go false (some j) w q r =
+          subst (λ (k : ℕ). x ∷ onFirst test g l ≡ set (x ∷ l) k (g (getD (x ∷ l) k d))) (let z : suc j ≡ i = cc in z) (ap (λ (m : List A). x ∷ m) (r j w))
 
   pub first-none : (g : A → A) (l : List A) → place test l ≡ none → onFirst test g l ≡ l
   first-none g [] e = refl

@@ -31,7 +31,14 @@ module _ {A : Type 0} (test : A → Bool) where
       go (inl a) v = inr (record { before = []; hit = x; after = l; parts = refl; passes = a; fails = tt })
       go (inr a) (inl v) = inl (a, v)
       go (inr a) (inr s) =
-          inr (record { before = x ∷ s .before; hit = s .hit; after = s .after; parts = ap (λ (m : List A). x ∷ m) (s .parts); passes = s .passes; fails = (a, s .fails) })
+          inr (record {
+            before = x ∷ s .before;
+            hit = s .hit;
+            after = s .after;
+            parts = ap (λ (m : List A). x ∷ m) (s .parts);
+            passes = s .passes;
+            fails = (a, s .fails);
+          })
 
   pub place-absent : (l : List A) → NoneOf test l → place test l ≡ none
   place-absent [] a = refl

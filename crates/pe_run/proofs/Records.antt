@@ -38,7 +38,8 @@ module _ (peer : ℕ) where
 
   other-open : (muid : ℕ) (cells : List Cell) → eqb peer muid ≡ false → Away peer (cellsOpen muid cells)
   other-open muid [] h = tt
-  other-open muid (cell ∷ cells) h = all-append (λ (e : Entry). isOf peer e ≡ false) (cellOpen muid cell) (cellsOpen muid cells) (one (cell .state)) (other-open muid cells h)
+  other-open muid (cell ∷ cells) h =
+      all-append (λ (e : Entry). isOf peer e ≡ false) (cellOpen muid cell) (cellsOpen muid cells) (one (cell .state)) (other-open muid cells h)
     where
       one : (o : Option Open) → Away peer (entryOf muid (cell .request-id) o)
       one none = tt
@@ -53,7 +54,8 @@ cells-append muid (u ∷ us) vs =
 pub recs-append : (xs ys : List Rec) → recsOpen (xs ++ ys) ≡ recsOpen xs ++ recsOpen ys
 recs-append [] ys = refl
 recs-append (r ∷ xs) ys =
-    ap (λ (l : Model). cellsOpen (r .muid) (r .cells) ++ l) (recs-append xs ys) ∙ sym (append-assoc (cellsOpen (r .muid) (r .cells)) (recsOpen xs) (recsOpen ys))
+    ap (λ (l : Model). cellsOpen (r .muid) (r .cells) ++ l) (recs-append xs ys)
+    ∙ sym (append-assoc (cellsOpen (r .muid) (r .cells)) (recsOpen xs) (recsOpen ys))
 
 pub free-none : (cell : Cell) → isFree cell ≡ true → cell .state ≡ none
 free-none cell h = go (cell .state) h
@@ -68,7 +70,8 @@ free-open muid (cell ∷ cells) h = let a = and-told (isFree cell) (every isFree
 
 pub no-id-open : (peer id : ℕ) (cells : List Cell) → NoneOf (hasId id) cells → find peer id (cellsOpen peer cells) ≡ none
 no-id-open peer id [] a = refl
-no-id-open peer id (cell ∷ cells) a = find-append peer id (cellOpen peer cell) (cellsOpen peer cells) (one (cell .state) (a .0)) ∙ no-id-open peer id cells (a .1)
+no-id-open peer id (cell ∷ cells) a =
+    find-append peer id (cellOpen peer cell) (cellsOpen peer cells) (one (cell .state) (a .0)) ∙ no-id-open peer id cells (a .1)
   where
     one : (o : Option Open) → (not (isNone o) && eqb id (cell .request-id)) ≡ false → find peer id (entryOf peer (cell .request-id) o) ≡ none
     one none h = refl
@@ -90,7 +93,8 @@ pub used-some : (cells : List Cell) → every isFree cells ≡ false → 1 ≤ t
 used-some [] h = absurd (false≢true (sym h))
 used-some (cell ∷ cells) h = go (isFree cell) h (used-some cells)
   where
-    go : (b : Bool) → (b && every isFree cells) ≡ false → (every isFree cells ≡ false → 1 ≤ tally isUsed cells) → 1 ≤ cond (not b) (suc (tally isUsed cells)) (tally isUsed cells)
+    go : (b : Bool) → (b && every isFree cells) ≡ false → (every isFree cells ≡ false → 1 ≤ tally isUsed cells)
+        → 1 ≤ cond (not b) (suc (tally isUsed cells)) (tally isUsed cells)
     go true e r = r e
     go false e r = omega arith
 
@@ -130,7 +134,8 @@ tidy-change (x ∷ xs) r ys s t a h =
 pub tidy-bind : (peer : ℕ) (xs : List Rec) (r : Rec) (ys : List Rec) (cells : List Cell) → Tidy (xs ++ r ∷ ys) → Apart peer xs → Apart peer ys
     → Tidy (xs ++ record { bound = true; muid = peer; cells = cells } ∷ ys)
 tidy-bind peer xs r ys cells t a b =
-    tidy-change xs r ys (record { bound = true; muid = peer; cells = cells }) t (others xs a) (λ e. absurd (false≢true (sym e)), λ e. b, tidy-second xs (r ∷ ys) t .2)
+    tidy-change xs r ys (record { bound = true; muid = peer; cells = cells }) t (others xs a)
+    (λ e. absurd (false≢true (sym e)), λ e. b, tidy-second xs (r ∷ ys) t .2)
   where
     others : (zs : List Rec) → Apart peer zs → All (λ (x : Rec). x .bound ≡ true → eqb (x .muid) peer ≡ false) zs
     others [] h = tt

@@ -12,9 +12,9 @@ use lib.ListN.{length, replicate, length-replicate}
 use Rattle.seven_bit.proofs.ReplyLaws.{and-told}
 use Rattle.pe_reassembler.specs.Open.{Perm, empty, then}
 use Rattle.pe_run.specs.Lists.{keep, tally}
-use Rattle.pe_run.specs.Model.{Open, Entry, Model, isAt, isOf, find, isNone, openOf, peerOf, peersOpen, entryOf, without, after}
+use Rattle.pe_run.specs.Model.{Open, Entry, Model, isAt, isOf, find, isNone, openOf, peerOf, peersOpen, entryOf, without}
 use Rattle.pe_run.proofs.ListLaws.{eqb-self, All, NoneOf, keep-append, tally-append}
-use Rattle.pe_run.proofs.PermLaws.{perm-refl, perm-sym, perm-map, perm-keep, perm-tally, perm-kinds, perm-append-left, perm-middle}
+use Rattle.pe_run.proofs.PermLaws.{perm-refl, perm-sym, perm-map, perm-keep, perm-tally, perm-different, perm-append-left, perm-middle}
 use Rattle.pe_run.proofs.ModelLaws.{key, find-append, without-none, Unique, perm-find, perm-unique, unique-arrived, Four}
 use Rattle.pe_run.proofs.Value.{Cell, Rec, Value, noRec, hasId, isOwn, cellOpen, cellsOpen, recsOpen, opens, withCells}
 use Rattle.pe_run.proofs.Places.{Split, split-length, split-all, split-hit}
@@ -38,7 +38,7 @@ module _ {n : ℕ} {v : Value} {b : Model} (rel : Rel n v b) where
   find-is peer id = sym (perm-find peer id (rel .same) (perm-unique (perm-sym (rel .same)) (rel .unique)))
 
   pub peers-are : peersOpen b ≡ tally isBusy (v .recs)
-  peers-are = sym (perm-kinds (perm-map peerOf (rel .same))) ∙ peers-recs (v .recs) (rel .tidy)
+  peers-are = sym (perm-different (perm-map peerOf (rel .same))) ∙ peers-recs (v .recs) (rel .tidy)
 
   pub four-open : Four b → (peer : ℕ) → tally (isOf peer) (opens v) ≤ 4
   four-open h peer = subst (λ (k : ℕ). k ≤ 4) (tally-is peer) (h peer)
@@ -87,7 +87,8 @@ module _ (peer : ℕ) {recs : List Rec} (tidy : Tidy recs) (s : Split (isOwn pee
   pub own-find : (id : ℕ) → NoneOf (hasId id) (s .hit .cells) → find peer id (recsOpen recs) ≡ none
   own-find id a =
       ap (find peer id) own-parts
-      ∙ find-append peer id (recsOpen (s .before)) (cellsOpen peer (s .hit .cells) ++ recsOpen (s .after)) (away-find peer id (recsOpen (s .before)) before-away)
+      ∙ find-append peer id (recsOpen (s .before)) (cellsOpen peer (s .hit .cells) ++ recsOpen (s .after))
+      (away-find peer id (recsOpen (s .before)) before-away)
       ∙ find-append peer id (cellsOpen peer (s .hit .cells)) (recsOpen (s .after)) (no-id-open peer id (s .hit .cells) a)
       ∙ away-find peer id (recsOpen (s .after)) after-away
 
@@ -115,7 +116,8 @@ module _ (peer : ℕ) {recs : List Rec} (tidy : Tidy recs) (s : Split (isOwn pee
 
       none-left : (cells : List Cell) → keep others (cellsOpen peer cells) ≡ []
       none-left [] = refl
-      none-left (cell ∷ cells) = keep-append others (cellOpen peer cell) (cellsOpen peer cells) ∙ ap₂ (λ (x y : Model). x ++ y) (one (cell .state)) (none-left cells)
+      none-left (cell ∷ cells) =
+          keep-append others (cellOpen peer cell) (cellsOpen peer cells) ∙ ap₂ (λ (x y : Model). x ++ y) (one (cell .state)) (none-left cells)
         where
           one : (o : Option Open) → keep others (entryOf peer (cell .request-id) o) ≡ []
           one none = refl
@@ -138,20 +140,24 @@ module _ {recs : List Rec} {test : Rec → Bool} (s : Split test recs) {taken : 
       subst (λ (l : Model). Perm l (cellOpen muid cell ++ rest muid)) (sym flat)
       (slide muid (cell .request-id) (cell .state) (recsOpen (s .before) ++ cellsOpen muid (u .before)) (cellsOpen muid (u .after) ++ recsOpen (s .after)))
     where
-      flat : recsOpen (putCell bound muid cell) ≡ recsOpen (s .before) ++ cellsOpen muid (u .before) ++ (cellOpen muid cell ++ (cellsOpen muid (u .after) ++ recsOpen (s .after)))
+      flat : recsOpen (putCell bound muid cell) ≡ recsOpen (s .before) ++ cellsOpen muid (u .before) ++
+          (cellOpen muid cell ++ (cellsOpen muid (u .after) ++ recsOpen (s .after)))
       flat =
           recs-append (s .before) (record { bound = bound; muid = muid; cells = u .before ++ cell ∷ u .after } ∷ s .after)
           ∙ rw (cells-append muid (u .before) (cell ∷ u .after)) (simp append-assoc)
 
   -- as it stands
   pub here-open : Perm (recsOpen recs) (cellOpen (s .hit .muid) (u .hit) ++ rest (s .hit .muid))
-  here-open = subst (λ (l : List Rec). Perm (recsOpen l) (cellOpen (s .hit .muid) (u .hit) ++ rest (s .hit .muid))) here (put-open (s .hit .bound) (s .hit .muid) (u .hit))
+  here-open =
+      subst (λ (l : List Rec). Perm (recsOpen l) (cellOpen (s .hit .muid) (u .hit) ++ rest (s .hit .muid))) here
+      (put-open (s .hit .bound) (s .hit .muid) (u .hit))
     where
       here : putCell (s .hit .bound) (s .hit .muid) (u .hit) ≡ recs
       here = ap (λ (cells : List Cell). s .before ++ withCells (s .hit) cells ∷ s .after) (sym (u .parts)) ∙ sym (s .parts)
 
 -- changed, against the model with what is left open there
-pub put-rel : {n : ℕ} {v : Value} {b : Model} → Rel n v b → {test : Rec → Bool} (s : Split test (v .recs)) {taken : Cell → Bool} (u : Split taken (s .hit .cells))
+pub put-rel : {n : ℕ} {v : Value} {b : Model} → Rel n v b
+    → {test : Rec → Bool} (s : Split test (v .recs)) {taken : Cell → Bool} (u : Split taken (s .hit .cells))
     → (clock peer id : ℕ) (o : Option Open) → Apart peer (s .before) → Apart peer (s .after) → Perm (rest s u peer) (without peer id b)
     → (cell : Cell) → cellOpen peer cell ≡ entryOf peer id o
     → Rel n (record { clock = clock; recs = putCell s u true peer cell }) (entryOf peer id o ++ without peer id b)

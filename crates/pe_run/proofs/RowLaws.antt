@@ -1,6 +1,6 @@
 -- What memory shows by place is what its value shows: the open slots, and those whose time is up.
 -- Assumes nothing.
-use Prim.Native.Nat.{ℕ, zero, suc, _+_, _-_, _*_, _≤_, _<_}
+use Prim.Native.Nat.{ℕ, zero, suc, _+_, _*_, _≤_, _<_}
 use mathlib.Core.Bool.{Bool, true, false, cond, _&&_}
 use mathlib.Core.List.{List, [], _∷_, _++_, map, append-assoc, append-nil, map-append}
 use mathlib.Core.Path.{_≡_, refl, sym, ap, ap₂, _∙_}
@@ -8,6 +8,7 @@ use native.Mathlib.Numerals.{add-one}
 use native.Mathlib.Omega.{arith}
 use lib.Dec.{leb}
 use lib.ListN.{length, getD}
+use Rattle.pe_reassembler.specs.declared.shape.Shape.{Shape}
 use Rattle.pe_reassembler.specs.Table.{slotAt, isActive, rowsFrom}
 use Rattle.pe_reassembler.specs.Open.{shownAt, openSlots}
 use Rattle.pe_reassembler.specs.Poll.{Timeout, isDue, timeoutOf, dueFrom}
@@ -15,8 +16,7 @@ use Rattle.pe_reassembler.proofs.SoundLaws.{SlotsSound}
 use Rattle.pe_run.specs.Lists.{keep}
 use Rattle.pe_run.specs.Model.{Entry, Model, isLate}
 use Rattle.pe_run.specs.Calls.{Key, keyOf, shownOf}
-use Rattle.pe_run.specs.Demand.{LongEnough}
-use Rattle.pe_run.specs.Run.{Table, fullSize}
+use Rattle.pe_run.specs.Run.{Table, LongFor}
 use Rattle.pe_run.proofs.Value.{cellAt, recAt, recsFrom, valueOf, cellOpen, recsOpen, opens}
 use Rattle.pe_run.proofs.CellLaws.{peerIn, entryAt, cell-open, entry-held}
 use Rattle.pe_run.proofs.ListLaws.{keep-append}
@@ -27,7 +27,7 @@ module _ {A : Type 0} (test : ℕ → ℕ → Bool) (row : ℕ → ℕ → A) wh
   abbrev pub rowOf : ℕ → ℕ → List A
   rowOf p s = cond (test p s) (row p s ∷ []) []
 
-  rows-four : (p k : ℕ) → rowsFrom test row p 0 (4 * suc k) ≡ rowOf p 0 ++ (rowOf p 1 ++ (rowOf p 2 ++ (rowOf p 3 ++ rowsFrom test row (suc p) 0 (4 * k))))
+  pub rows-four : (p k : ℕ) → rowsFrom test row p 0 (4 * suc k) ≡ rowOf p 0 ++ (rowOf p 1 ++ (rowOf p 2 ++ (rowOf p 3 ++ rowsFrom test row (suc p) 0 (4 * k))))
   unfolding rowsFrom
   rows-four p k =
       let e : 4 * suc k ≡ suc (suc (suc (suc (4 * k)))) = omega arith in
@@ -37,7 +37,8 @@ module _ {A : Type 0} (test : ℕ → ℕ → Bool) (row : ℕ → ℕ → A) wh
   unfolding rowsFrom
   rows-mapped {B} f p s zero = refl
   rows-mapped {B} f p s (suc k) =
-      map-append f (rowOf p s) _ ∙ ap₂ (λ (xs ys : List B). xs ++ ys) (one (test p s)) (go (leb 3 s) _ _ (rows-mapped f (p + 1) 0 k) (rows-mapped f p (s + 1) k))
+      map-append f (rowOf p s) _
+      ∙ ap₂ (λ (xs ys : List B). xs ++ ys) (one (test p s)) (go (leb 3 s) _ _ (rows-mapped f (p + 1) 0 k) (rows-mapped f p (s + 1) k))
     where
       one : (b : Bool) → map f (cond b (row p s ∷ []) []) ≡ cond b (f (row p s) ∷ []) []
       one true = refl
@@ -48,9 +49,10 @@ module _ {A : Type 0} (test : ℕ → ℕ → Bool) (row : ℕ → ℕ → A) wh
       go false x y e e′ = e′
 
 -- what is shown of a model entry by entry: by each slot, and so by all of them
-module _ {A : Type 0} (g : Model → List A) (none-shown : g [] ≡ []) (both-shown : (xs ys : Model) → g (xs ++ ys) ≡ g xs ++ g ys) (t : Table) (test : ℕ → ℕ → Bool) (row : ℕ → ℕ → A) where
+module _ {A : Type 0} (g : Model → List A) (none-shown : g [] ≡ []) (both-shown : (xs ys : Model) → g (xs ++ ys) ≡ g xs ++ g ys) (shape : Shape) (t : Table)
+    (test : ℕ → ℕ → Bool) (row : ℕ → ℕ → A) where
   abbrev Slots : ℕ → ℕ → Type 0
-  Slots p k = (i s : ℕ) → p ≤ i → i < p + k → s < 4 → rowOf test row i s ≡ g (cond (isActive (t .numbers) i s) (entryAt t i s ∷ []) [])
+  Slots p k = (i s : ℕ) → p ≤ i → i < p + k → s < 4 → rowOf test row i s ≡ g (cond (isActive (t .numbers) i s) (entryAt shape t i s ∷ []) [])
 
   four-shown : (c0 c1 c2 c3 rest : Model) → g ((c0 ++ (c1 ++ (c2 ++ (c3 ++ [])))) ++ rest) ≡ g c0 ++ (g c1 ++ (g c2 ++ (g c3 ++ g rest)))
   four-shown c0 c1 c2 c3 rest =
@@ -58,31 +60,32 @@ module _ {A : Type 0} (g : Model → List A) (none-shown : g [] ≡ []) (both-sh
       (both-shown c0 (c1 ++ (c2 ++ (c3 ++ rest)))
       ∙ rw (both-shown c1 (c2 ++ (c3 ++ rest)), both-shown c2 (c3 ++ rest), both-shown c3 rest))
 
-  rows-from : (p k : ℕ) → Slots p k → rowsFrom test row p 0 (4 * k) ≡ g (recsOpen (recsFrom t p k))
+  rows-from : (p k : ℕ) → Slots p k → rowsFrom test row p 0 (4 * k) ≡ g (recsOpen (recsFrom shape t p k))
   unfolding recsFrom rowsFrom recAt
   rows-from p zero h = sym none-shown
   rows-from p (suc k) h =
-      let c : ℕ → Model = λ s. cellOpen (peerIn t p) (cellAt t p s) in
-      let one : (s : ℕ) → s < 4 → rowOf test row p s ≡ g (c s) = λ s l. h p s (omega arith) (omega arith) l ∙ ap g (sym (cell-open t p s)) in
+      let c : ℕ → Model = λ s. cellOpen (peerIn t p) (cellAt shape t p s) in
+      let one : (s : ℕ) → s < 4 → rowOf test row p s ≡ g (c s) = λ s l. h p s (omega arith) (omega arith) l ∙ ap g (sym (cell-open shape t p s)) in
       let rest = rows-from (suc p) k (λ i s a b l. h i s (omega arith) (omega arith) l) in
       rows-four test row p k
       ∙ rw (one 0 (omega arith), one 1 (omega arith), one 2 (omega arith), one 3 (omega arith), rest) refl
-      ∙ sym (four-shown (c 0) (c 1) (c 2) (c 3) (recsOpen (recsFrom t (suc p) k)))
+      ∙ sym (four-shown (c 0) (c 1) (c 2) (c 3) (recsOpen (recsFrom shape t (suc p) k)))
 
-  pub rows-by : (n : ℕ) → ((p s : ℕ) → p < n → s < 4 → rowOf test row p s ≡ g (cond (isActive (t .numbers) p s) (entryAt t p s ∷ []) []))
-      → rowsFrom test row 0 0 (4 * n) ≡ g (opens (valueOf n t))
+  pub rows-by : ((p s : ℕ) → p < (shape .«max_peers») → s < 4 → rowOf test row p s ≡ g (cond (isActive (t .numbers) p s) (entryAt shape t p s ∷ []) []))
+      → rowsFrom test row 0 0 (4 * shape .«max_peers») ≡ g (opens (valueOf shape t))
   unfolding valueOf
-  rows-by n h = rows-from 0 n (λ p s a b l. h p s (omega arith) l)
+  rows-by h = rows-from 0 (shape .«max_peers») (λ p s a b l. h p s (omega arith) l)
 
 -- ---- the open slots
-pub open-rows : (n : ℕ) (t : Table) → LongEnough n t → SlotsSound (fullSize n) (t .numbers) (t .index) → openSlots (fullSize n) (t .numbers) ≡ map shownOf (opens (valueOf n t))
+pub open-rows : (shape : Shape) (t : Table) → LongFor shape t → SlotsSound shape (t .numbers) (t .index)
+    → openSlots shape (t .numbers) ≡ map shownOf (opens (valueOf shape t))
 unfolding openSlots
-open-rows n t long sound =
-    rows-by (λ (b : Model). map shownOf b) refl (map-append shownOf) t (isActive (t .numbers)) (shownAt (t .numbers)) n
-    (λ p s h k. one p s (isActive (t .numbers) p s) (entry-held n t long p s h k (sound .each p s h k)))
+open-rows shape t long sound =
+    rows-by (λ (b : Model). map shownOf b) refl (map-append shownOf) shape t (isActive (t .numbers)) (shownAt (t .numbers))
+    (λ p s h k. one p s (isActive (t .numbers) p s) (entry-held shape t long p s h k (sound .each p s h k)))
   where
-    one : (p s : ℕ) (b : Bool) → length (entryAt t p s .state .slot .pieces) ≡ getD (t .numbers) (slotAt p s + 7) 0
-        → cond b (shownAt (t .numbers) p s ∷ []) [] ≡ map shownOf (cond b (entryAt t p s ∷ []) [])
+    one : (p s : ℕ) (b : Bool) → length (entryAt shape t p s .state .slot .pieces) ≡ getD (t .numbers) (slotAt p s + 7) 0
+        → cond b (shownAt (t .numbers) p s ∷ []) [] ≡ map shownOf (cond b (entryAt shape t p s ∷ []) [])
     one p s true e = ap (λ (k : ℕ). record { peer = peerIn t p; request-id = getD (t .numbers) (slotAt p s + 1) 0; held = k } ∷ []) (sym e)
     one p s false e = refl
 
@@ -93,12 +96,13 @@ keyT t = record { peer = t .peer; request-id = t .request-id }
 abbrev lateKeys : ℕ → Model → List Key
 lateKeys now-ms b = map keyOf (keep (isLate now-ms) b)
 
-pub due-rows : (n : ℕ) (t : Table) (now-ms : ℕ) → map keyT (dueFrom (t .numbers) now-ms 0 0 (4 * n)) ≡ map keyOf (keep (isLate now-ms) (opens (valueOf n t)))
+pub due-rows : (shape : Shape) (t : Table) (now-ms : ℕ)
+    → map keyT (dueFrom (t .numbers) now-ms 0 0 (4 * shape .«max_peers»)) ≡ map keyOf (keep (isLate now-ms) (opens (valueOf shape t)))
 unfolding isDue
-due-rows n t now-ms =
-    rows-mapped (isDue (t .numbers) now-ms) (timeoutOf (t .numbers)) keyT 0 0 (4 * n)
-    ∙ rows-by (lateKeys now-ms) refl split t (isDue (t .numbers) now-ms) (λ (p s : ℕ). keyT (timeoutOf (t .numbers) p s)) n
-    (λ p s h k. one (entryAt t p s) (isActive (t .numbers) p s))
+due-rows shape t now-ms =
+    rows-mapped (isDue (t .numbers) now-ms) (timeoutOf (t .numbers)) keyT 0 0 (4 * shape .«max_peers»)
+    ∙ rows-by (lateKeys now-ms) refl split shape t (isDue (t .numbers) now-ms) (λ (p s : ℕ). keyT (timeoutOf (t .numbers) p s))
+    (λ p s h k. one (entryAt shape t p s) (isActive (t .numbers) p s))
   where
     split : (xs ys : Model) → lateKeys now-ms (xs ++ ys) ≡ lateKeys now-ms xs ++ lateKeys now-ms ys
     split xs ys = ap (map keyOf) (keep-append (isLate now-ms) xs ys) ∙ map-append keyOf (keep (isLate now-ms) xs) (keep (isLate now-ms) ys)

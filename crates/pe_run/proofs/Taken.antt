@@ -13,10 +13,11 @@ use lib.ListN.{length, length-append, length-map}
 use Rattle.seven_bit.specs.Reply.{granted}
 use Rattle.seven_bit.proofs.ReplyLaws.{both}
 use Rattle.pe_frame.specs.Chunk.{Chunk}
-use Rattle.pe_slot.specs.Slot.{Slot, held, allHeld, bodyLen, isWhole, Event, waiting, whole, eventOf, headerFits, sameHeader, headerAgrees, noneKnown, newHeader, countAgrees, newCount, afterChunk, passed, judge}
+use Rattle.pe_slot.specs.Slot.{Slot, Verdict, slotAfter, held, allHeld, bodyLen, isWhole, Event, waiting, whole, eventOf, headerFits, sameHeader, headerAgrees, noneKnown, newHeader, countAgrees, newCount, afterChunk, passed, judge}
 use Rattle.pe_slot.proofs.OrderHeldLaws.{all-yes, all-no}
 use Rattle.pe_run.specs.Lists.{memb}
 use Rattle.pe_run.specs.Model.{Open, Judged, judged}
+use Rattle.pe_run.specs.Demand.{fullSize}
 use Rattle.pe_run.proofs.ListLaws.{eqb-sym, all-middle, memb-append, distinct-middle}
 use Rattle.pe_run.proofs.Pieces.{numOf, held-memb, body-len-append}
 use Rattle.pe_run.proofs.Chunks.{pieceIn, piecesIn, numbers, Of, Good}
@@ -41,9 +42,26 @@ judgedTo left event = record { left = left; answer = granted event }
 abbrev pub settled : ℕ → Slot → Judged
 settled time s = judgedTo (cond (isWhole (s .header) (s .count) (s .pieces)) none (some (openAt time s))) (eventOf (s .header) (s .count) (s .pieces))
 
-judged-passed : (time : ℕ) (s : Slot) (c : Chunk) → Passes s c → judged (openAt time s) c ≡ settled time (afterChunk s c (newHeader s c) (newCount s c) true)
-unfolding judged judge passed
-judged-passed time s c k = rw (k .fits, k .agrees, k .counts, k .named, k .fresh, k .few, k .roomy) refl
+-- the verdict of a chunk that leaves the slot s′
+abbrev passing : Slot → Chunk → Slot → Verdict
+passing s c s′ =
+    record {
+      answer = granted (eventOf (s′ .header) (s′ .count) (s′ .pieces));
+      stores = newHeader s c;
+      takes = newCount s c;
+      adds = true;
+      closes = isWhole (s′ .header) (s′ .count) (s′ .pieces);
+    }
+
+judge-passed : (s : Slot) (c : Chunk) → Passes s c → judge 4096 65536 2048 s c ≡ passing s c (afterChunk s c (newHeader s c) (newCount s c) true)
+unfolding judge passed
+judge-passed s c k = rw (k .fits, k .agrees, k .counts, k .named, k .fresh, k .few, k .roomy) refl
+
+judged-passed : (n time : ℕ) (s : Slot) (c : Chunk) → Passes s c
+    → judged (fullSize n) (openAt time s) c ≡ settled time (afterChunk s c (newHeader s c) (newCount s c) true)
+unfolding judged
+judged-passed n time s c k =
+    ap (λ (v : Verdict). record { left = cond (v .closes) none (some (openAt time (slotAfter s c v))); answer = v .answer }) (judge-passed s c k)
 
 -- ---- a slot that holds chunks of a list: its header is there if number 1 is
 abbrev headerWith : List ℕ → List Chunk → Option (List ℕ)
@@ -91,12 +109,14 @@ module _ {n : ℕ} {header body : List ℕ} (held-now : List Chunk) (c : Chunk) 
       fits (inl e) = rw e (le-leb (length (c .header)) 4096 (omega (arith, ap length (of .header-is e), g .header-fits)))
       fits (inr e) = rw e
 
-      agrees : (eqb (c .chunk-num) 1 ≡ true) ⊎ (eqb (c .chunk-num) 1 ≡ false) → (not (eqb (c .chunk-num) 1) || sameHeader (headerWith header held-now) (c .header)) ≡ true
+      agrees : (eqb (c .chunk-num) 1 ≡ true) ⊎ (eqb (c .chunk-num) 1 ≡ false)
+          → (not (eqb (c .chunk-num) 1) || sameHeader (headerWith header held-now) (c .header)) ≡ true
       agrees (inl e) = rw (e, headless e) (unfold sameHeader in refl)
       agrees (inr e) = rw e
 
   -- the slot then holds it too
-  after-header : cond (eqb (c .chunk-num) 1 && noneKnown (headerWith header held-now)) (some (c .header)) (headerWith header held-now) ≡ headerWith header (held-now ++ (c ∷ []))
+  after-header : cond (eqb (c .chunk-num) 1 && noneKnown (headerWith header held-now)) (some (c .header)) (headerWith header held-now) ≡ headerWith header
+      (held-now ++ (c ∷ []))
   unfolding noneKnown
   after-header = go (both (eqb (c .chunk-num) 1))
     where
@@ -112,7 +132,8 @@ module _ {n : ℕ} {header body : List ℕ} (held-now : List Chunk) (c : Chunk) 
       either false = refl
 
       go : (eqb (c .chunk-num) 1 ≡ true) ⊎ (eqb (c .chunk-num) 1 ≡ false)
-          → cond (eqb (c .chunk-num) 1 && noneKnown (headerWith header held-now)) (some (c .header)) (headerWith header held-now) ≡ headerWith header (held-now ++ (c ∷ []))
+          → cond (eqb (c .chunk-num) 1 && noneKnown (headerWith header held-now)) (some (c .header)) (headerWith header held-now)
+          ≡ headerWith header (held-now ++ (c ∷ []))
       go (inl e) =
           let now : memb 1 (numbers (held-now ++ (c ∷ []))) ≡ true = one-more ∙ rw (eqb-sym 1 (c .chunk-num), e) (either (memb 1 (numbers held-now))) in
           rw (e, headless e, now) (ap {B = Option (List ℕ)} some (of .header-is e))
@@ -128,14 +149,15 @@ module _ {n : ℕ} {header body : List ℕ} (held-now : List Chunk) (c : Chunk) 
       go false q = eqb-true count n q
 
   after-held : (count : ℕ) → (eqb count 0 || eqb count n) ≡ true
-      → afterChunk (slotWith header count held-now) c (newHeader (slotWith header count held-now) c) (newCount (slotWith header count held-now) c) true ≡ slotWith header n (held-now ++ (c ∷ []))
+      → afterChunk (slotWith header count held-now) c (newHeader (slotWith header count held-now) c) (newCount (slotWith header count held-now) c) true
+      ≡ slotWith header n (held-now ++ (c ∷ []))
   unfolding afterChunk newHeader newCount
   after-held count k = rw (after-header, after-count count k, map-append pieceIn held-now (c ∷ [])) refl
 
   -- A chunk of the list is taken: nothing refuses it.
-  pub judged-good : (time count : ℕ) → (eqb count 0 || eqb count n) ≡ true
-      → judged (openAt time (slotWith header count held-now)) c ≡ settled time (slotWith header n (held-now ++ (c ∷ [])))
-  judged-good time count k = judged-passed time (slotWith header count held-now) c (passes count k) ∙ ap (settled time) (after-held count k)
+  pub judged-good : (peers time count : ℕ) → (eqb count 0 || eqb count n) ≡ true
+      → judged (fullSize peers) (openAt time (slotWith header count held-now)) c ≡ settled time (slotWith header n (held-now ++ (c ∷ [])))
+  judged-good peers time count k = judged-passed peers time (slotWith header count held-now) c (passes count k) ∙ ap (settled time) (after-held count k)
 
   -- While one is missing the slot waits.
   pub settled-wait : (time : ℕ) → settled time (slotWith header n held-now) ≡ judgedTo (some (openAt time (slotWith header n held-now))) waiting

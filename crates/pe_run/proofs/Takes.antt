@@ -1,72 +1,74 @@
 -- A chunk, on the value of a table and on the model.
 -- Assumes nothing.
-use Prim.Native.Nat.{ℕ, _≤_, _<_}
-use mathlib.Core.Bool.{Bool, true, false, not, or-true}
+use Prim.Native.Nat.{ℕ, _≤_}
+use mathlib.Core.Bool.{Bool, true, false, not, _&&_, _||_}
 use mathlib.Core.List.{List, [], _∷_, _++_}
 use mathlib.Core.Logic.{_⊎_, inl, inr}
 use mathlib.Core.Option.{Option, none, some}
 use mathlib.Core.Path.{_≡_, refl, sym, ap, ap₂, _∙_, subst}
 use native.Mathlib.Omega.{arith}
-use borrow.Author.Tests.{lt-ltb, le-ltb, le-leb, ne-eqb, not-true}
-use lib.Dec.{eqb}
+use borrow.Author.Tests.{le-ltb, le-leb, not-true}
+use lib.Dec.{leb, eqb}
 use lib.ListN.{length, set}
 use Rattle.seven_bit.specs.Reply.{refused}
 use Rattle.seven_bit.proofs.ReplyLaws.{both, and-told}
 use Rattle.pe_frame.specs.Chunk.{Chunk}
+use Rattle.pe_reassembler.specs.declared.shape.Shape.{Shape}
 use Rattle.pe_reassembler.specs.Open.{Perm, then}
 use Rattle.pe_reassembler.specs.Feed.{nextTick}
 use Rattle.pe_run.specs.Lists.{tally}
-use Rattle.pe_run.specs.Model.{Open, Model, find, openOf, peersOpen, findsRecord, hasFour, touchedAt, Judged, judged, entryOf, without, Arrived, arrived, arrives, Act, arrive, cancel, drop, poll, nothing, after}
+use Rattle.pe_run.specs.Model.{Open, Model, find, isNone, openOf, peersOpen, findsRecord, hasFour, touchedAt, Judged, judged, entryOf, without, Arrived, arrived, arrives}
 use Rattle.pe_run.specs.Demand.{Room}
 use Rattle.pe_run.proofs.ListLaws.{NoneOf, all-first, all-second, tally-all}
 use Rattle.pe_run.proofs.PermLaws.{perm-sym}
 use Rattle.pe_run.proofs.ModelLaws.{without-none}
-use Rattle.pe_run.proofs.Arrive.{arrive-open, arrive-new}
-use Rattle.pe_run.proofs.Value.{Cell, Rec, Value, noCell, noRec, every, isFree, hasId, isOwn, isUnbound, isIdle, choose, chooseCell, cellOpen, cellsOpen, recsOpen, opens, Taken, cellWith, takeCell, takeRec, takeAt, takes, cancelled, dropped, polled}
+use Rattle.pe_run.proofs.Arrive.{finds-open, finds-fewer, arrive-open, arrive-new}
+use Rattle.pe_run.proofs.Value.{Cell, Rec, Value, noCell, noRec, every, isFree, hasId, isOwn, isUnbound, isIdle, choose, chooseCell, cellOpen, cellsOpen, recsOpen, opens, Taken, cellWith, takeCell, takeRec, takeAt, takes}
 use Rattle.pe_run.proofs.Places.{Split, view, place-absent, split-place, split-getD, split-set, split-hit, split-short}
 use Rattle.pe_run.proofs.Records.{away-tally, away-find, free-none, free-open, isUsed, used-some, Apart, Tidy, apart-away, tidy-second, isBusy}
 use Rattle.pe_run.proofs.Refine.{FourCells, Rel, tally-is, find-is, peers-are, own-muid, own-after, own-find, own-tally, rest, putCell, here-open, put-rel, own-open}
-use Rattle.pe_run.proofs.Closes.{cancel-rel, drop-rel, poll-rel}
 
 -- ---- does the peer find a record?
-finds-open : (n peer : ℕ) (b : Model) → 1 ≤ openOf peer b → findsRecord n peer b ≡ true
-unfolding findsRecord
-finds-open n peer b h = rw (ne-eqb (openOf peer b) 0 (omega arith))
-
-finds-fewer : (n peer : ℕ) (b : Model) → peersOpen b < n → findsRecord n peer b ≡ true
-unfolding findsRecord
-finds-fewer n peer b h = rw (lt-ltb (peersOpen b) n h) (or-true (not (eqb (openOf peer b) 0)))
-
-finds-idle : {n : ℕ} {v : Value} {b : Model} → Rel n v b → (peer : ℕ) {test : Rec → Bool} (s : Split test (v .recs)) → isIdle (s .hit) ≡ true → findsRecord n peer b ≡ true
+finds-idle : {n : ℕ} {v : Value} {b : Model} → Rel n v b → (peer : ℕ) {test : Rec → Bool} (s : Split test (v .recs)) → isIdle (s .hit) ≡ true
+    → findsRecord n peer b ≡ true
 finds-idle {n} {v} {b} rel peer s h = finds-fewer n peer b (omega (arith, peers-are rel, split-short s isBusy (rw h), rel .size))
 
 -- the two refusals
-arrive-full : (n peer : ℕ) (b : Model) (c : Chunk) (now-ms : ℕ) → openOf peer b ≡ 0 → n ≤ peersOpen b
-    → arrives n b peer c now-ms ≡ record { model = b; answer = refused 7 0 }
-unfolding arrives findsRecord
-arrive-full n peer b c now-ms e h = rw (e, le-ltb (peersOpen b) n h) refl
+finds-none : (n peer : ℕ) (b : Model) → openOf peer b ≡ 0 → n ≤ peersOpen b → findsRecord n peer b ≡ false
+unfolding findsRecord
+finds-none n peer b e h = ap₂ (λ (k : ℕ) (fewer : Bool). not (eqb k 0) || fewer) e (le-ltb (peersOpen b) n h)
 
-arrive-fifth : (n peer : ℕ) (b : Model) (c : Chunk) (now-ms : ℕ) → 4 ≤ openOf peer b → find peer (c .request-id) b ≡ none
-    → arrives n b peer c now-ms ≡ record { model = b; answer = refused 6 0 }
-unfolding arrives hasFour
-arrive-fifth n peer b c now-ms h e = rw (finds-open n peer b (omega arith), e, le-leb 4 (openOf peer b) h) refl
+arrive-full : (shape : Shape) (peer : ℕ) (b : Model) (c : Chunk) (now-ms : ℕ) → openOf peer b ≡ 0 → shape .«max_peers» ≤ peersOpen b
+    → arrives shape b peer c now-ms ≡ record { model = b; answer = refused 7 0 }
+unfolding arrives
+arrive-full shape peer b c now-ms e h = rw (finds-none (shape .«max_peers») peer b e h) refl
+
+has-four : (peer request-id : ℕ) (b : Model) → 4 ≤ openOf peer b → find peer request-id b ≡ none → hasFour peer request-id b ≡ true
+unfolding hasFour
+has-four peer request-id b h e = ap (λ (o : Option Open). isNone o && leb 4 (openOf peer b)) e ∙ le-leb 4 (openOf peer b) h
+
+arrive-fifth : (shape : Shape) (peer : ℕ) (b : Model) (c : Chunk) (now-ms : ℕ) → 4 ≤ openOf peer b → find peer (c .request-id) b ≡ none
+    → arrives shape b peer c now-ms ≡ record { model = b; answer = refused 6 0 }
+unfolding arrives
+arrive-fifth shape peer b c now-ms h e =
+    rw (finds-open (shape .«max_peers») peer b (omega arith), has-four peer (c .request-id) b h e) refl
 
 -- ---- what the value makes of a chunk
-module _ (v : Value) (peer : ℕ) (c : Chunk) (now-ms : ℕ) where
-  takes-full : choose peer (v .recs) ≡ none → takes v peer c now-ms ≡ record { value = v; answer = refused 7 0 }
+module _ (shape : Shape) (v : Value) (peer : ℕ) (c : Chunk) (now-ms : ℕ) where
+  takes-full : choose peer (v .recs) ≡ none → takes shape v peer c now-ms ≡ record { value = v; answer = refused 7 0 }
   unfolding takes takeAt
-  takes-full e = ap (takeAt v peer c now-ms) e
+  takes-full e = ap (takeAt shape v peer c now-ms) e
 
   module _ {test : Rec → Bool} (s : Split test (v .recs)) (chosen : choose peer (v .recs) ≡ some (length (s .before))) where
-    takes-in : takes v peer c now-ms ≡ takeRec v peer c now-ms (length (s .before)) (s .hit) (chooseCell (c .request-id) (s .hit .cells))
+    takes-in : takes shape v peer c now-ms ≡ takeRec shape v peer c now-ms (length (s .before)) (s .hit) (chooseCell (c .request-id) (s .hit .cells))
     unfolding takes takeAt
     takes-in =
-        ap (takeAt v peer c now-ms) chosen
-        ∙ ap (λ (r : Rec). takeRec v peer c now-ms (length (s .before)) r (chooseCell (c .request-id) (r .cells))) (split-getD s noRec)
+        ap (takeAt shape v peer c now-ms) chosen
+        ∙ ap (λ (r : Rec). takeRec shape v peer c now-ms (length (s .before)) r (chooseCell (c .request-id) (r .cells))) (split-getD s noRec)
 
-    takes-fifth : chooseCell (c .request-id) (s .hit .cells) ≡ none → takes v peer c now-ms ≡ record { value = v; answer = refused 6 0 }
+    takes-fifth : chooseCell (c .request-id) (s .hit .cells) ≡ none → takes shape v peer c now-ms ≡ record { value = v; answer = refused 6 0 }
     unfolding takeRec
-    takes-fifth e = takes-in ∙ ap (takeRec v peer c now-ms (length (s .before)) (s .hit)) e
+    takes-fifth e = takes-in ∙ ap (takeRec shape v peer c now-ms (length (s .before)) (s .hit)) e
 
     -- the cell that is chosen gets what is left
     module _ {taken : Cell → Bool} (u : Split taken (s .hit .cells)) where
@@ -76,12 +78,13 @@ module _ (v : Value) (peer : ℕ) (c : Chunk) (now-ms : ℕ) where
         answer = j .answer;
       }
 
-      takes-at : chooseCell (c .request-id) (s .hit .cells) ≡ some (length (u .before)) → takes v peer c now-ms ≡ taking (judged (touchedAt (u .hit .state) now-ms) c)
+      takes-at : chooseCell (c .request-id) (s .hit .cells) ≡ some (length (u .before))
+          → takes shape v peer c now-ms ≡ taking (judged shape (touchedAt (u .hit .state) now-ms) c)
       unfolding takeRec takeCell
       takes-at e =
-          takes-in ∙ ap (takeRec v peer c now-ms (length (s .before)) (s .hit)) e
-          ∙ ap (λ (cell : Cell). stored (judged (touchedAt (cell .state) now-ms) c)) (split-getD u noCell)
-          ∙ there (judged (touchedAt (u .hit .state) now-ms) c)
+          takes-in ∙ ap (takeRec shape v peer c now-ms (length (s .before)) (s .hit)) e
+          ∙ ap (λ (cell : Cell). stored (judged shape (touchedAt (cell .state) now-ms) c)) (split-getD u noCell)
+          ∙ there (judged shape (touchedAt (u .hit .state) now-ms) c)
         where
           bound : List Cell → Rec
           bound cells = record { bound = true; muid = peer; cells = cells }
@@ -91,14 +94,16 @@ module _ (v : Value) (peer : ℕ) (c : Chunk) (now-ms : ℕ) where
 
           stored : Judged → Taken
           stored j = record {
-            value = record { clock = nextTick (v .clock); recs = set (v .recs) (length (s .before)) (bound (set (s .hit .cells) (length (u .before)) (new j))) };
+            value =
+                record { clock = nextTick (v .clock); recs = set (v .recs) (length (s .before)) (bound (set (s .hit .cells) (length (u .before)) (new j))) };
             answer = j .answer;
           }
 
           there : (j : Judged) → stored j ≡ taking j
           there j =
               ap (λ (recs : List Rec). record { value = record { clock = nextTick (v .clock); recs = recs }; answer = j .answer })
-              (ap (λ (cells : List Cell). set (v .recs) (length (s .before)) (bound cells)) (split-set u (new j)) ∙ split-set s (bound (u .before ++ new j ∷ u .after)))
+              (ap (λ (cells : List Cell). set (v .recs) (length (s .before)) (bound cells)) (split-set u (new j))
+              ∙ split-set s (bound (u .before ++ new j ∷ u .after)))
 
 -- ---- value and model
 -- one answer, and what both leave
@@ -122,13 +127,13 @@ no-ids : (id : ℕ) (cells : List Cell) → every isFree cells ≡ true → None
 no-ids id [] h = tt
 no-ids id (cell ∷ cells) h = let a = and-told (isFree cell) (every isFree cells) h in (rw (a .0), no-ids id cells (a .1))
 
-module _ {n : ℕ} {v : Value} {b : Model} (rel : Rel n v b) (peer : ℕ) (c : Chunk) (now-ms : ℕ) where
+module _ (shape : Shape) {v : Value} {b : Model} (rel : Rel (shape .«max_peers») v b) (peer : ℕ) (c : Chunk) (now-ms : ℕ) where
   abbrev Goal : Type 0
-  Goal = Agrees n (takes v peer c now-ms) (arrives n b peer c now-ms)
+  Goal = Agrees (shape .«max_peers») (takes shape v peer c now-ms) (arrives shape b peer c now-ms)
 
   -- a refusal of both
-  refused-both : (number : ℕ) → takes v peer c now-ms ≡ record { value = v; answer = refused number 0 }
-      → arrives n b peer c now-ms ≡ record { model = b; answer = refused number 0 } → Goal
+  refused-both : (number : ℕ) → takes shape v peer c now-ms ≡ record { value = v; answer = refused number 0 }
+      → arrives shape b peer c now-ms ≡ record { model = b; answer = refused number 0 } → Goal
   refused-both number e f = rw (e, f) (record { rel = rel; answer-is = refl })
 
   module _ {test : Rec → Bool} (s : Split test (v .recs)) (chosen : choose peer (v .recs) ≡ some (length (s .before)))
@@ -136,24 +141,25 @@ module _ {n : ℕ} {v : Value} {b : Model} (rel : Rel n v b) (peer : ℕ) (c : C
     -- the chosen cell has what the model has
     judged-both : {taken : Cell → Bool} (u : Split taken (s .hit .cells)) → chooseCell (c .request-id) (s .hit .cells) ≡ some (length (u .before))
         → Perm (rest s u peer) (without peer (c .request-id) b)
-        → arrives n b peer c now-ms ≡ arrived peer (c .request-id) b (judged (touchedAt (u .hit .state) now-ms) c) → Goal
-    judged-both u e p arr = rw (takes-at v peer c now-ms s chosen u e, arr) (record {
+        → arrives shape b peer c now-ms ≡ arrived peer (c .request-id) b (judged shape (touchedAt (u .hit .state) now-ms) c) → Goal
+    judged-both u e p arr = rw (takes-at shape v peer c now-ms s chosen u e, arr) (record {
       rel = put-rel rel s u (nextTick (v .clock)) peer (c .request-id) left before behind p
           (cellWith (nextTick (v .clock)) (c .request-id) left) (cell-open peer (nextTick (v .clock)) (c .request-id) left);
       answer-is = refl;
     })
       where
         left : Option Open
-        left = judged (touchedAt (u .hit .state) now-ms) c .left
+        left = judged shape (touchedAt (u .hit .state) now-ms) c .left
 
     -- a free cell is opened
     open-both : (u : Split isFree (s .hit .cells)) → NoneOf (hasId (c .request-id)) (s .hit .cells)
         → cellsOpen (s .hit .muid) (u .before) ≡ cellsOpen peer (u .before) → cellsOpen (s .hit .muid) (u .after) ≡ cellsOpen peer (u .after)
-        → Room n peer (c .request-id) b → Goal
+        → Room (shape .«max_peers») peer (c .request-id) b → Goal
     open-both u a same-before same-after room =
         judged-both u (rw (place-absent (hasId (c .request-id)) (s .hit .cells) a) (split-place u))
         (rw (without-none peer (c .request-id) b (room .not-open)) (then (perm-sym here) (rel .same)))
-        (arrive-new n peer b c now-ms room ∙ ap (λ (o : Option Open). arrived peer (c .request-id) b (judged (touchedAt o now-ms) c)) (sym (free-none (u .hit) (u .passes))))
+        (arrive-new shape peer b c now-ms room
+        ∙ ap (λ (o : Option Open). arrived peer (c .request-id) b (judged shape (touchedAt o now-ms) c)) (sym (free-none (u .hit) (u .passes))))
       where
         here : Perm (opens v) (rest s u peer)
         here = subst (λ (l : Model). Perm (opens v) l)
@@ -162,7 +168,8 @@ module _ {n : ℕ} {v : Value} {b : Model} (rel : Rel n v b) (peer : ℕ) (c : C
             (here-open s u)
 
   -- a record with nothing open, and none is the peer's own
-  idle-both : {test : Rec → Bool} (s : Split test (v .recs)) → choose peer (v .recs) ≡ some (length (s .before)) → Apart peer (v .recs) → isIdle (s .hit) ≡ true → Goal
+  idle-both : {test : Rec → Bool} (s : Split test (v .recs)) → choose peer (v .recs) ≡ some (length (s .before)) → Apart peer (v .recs) → isIdle (s .hit) ≡ true
+      → Goal
   idle-both s chosen apart idle =
       let i = idle-split (s .hit .cells) idle (split-hit s FourCells (rel .fours)) in
       open-both s chosen (all-first own (s .before) (s .hit ∷ s .after) parts) (all-second own (s .before) (s .hit ∷ s .after) parts .1)
@@ -201,8 +208,8 @@ module _ {n : ℕ} {v : Value} {b : Model} (rel : Rel n v b) (peer : ℕ) (c : C
       frees : NoneOf (hasId (c .request-id)) (s .hit .cells) → NoneOf isFree (s .hit .cells) ⊎ Split isFree (s .hit .cells) → Goal
       frees a (inl k) =
           refused-both 6
-          (takes-fifth v peer c now-ms s chosen (rw (place-absent (hasId (c .request-id)) (s .hit .cells) a) (place-absent isFree (s .hit .cells) k)))
-          (arrive-fifth n peer b c now-ms (omega (arith, used, tally-all isFree (s .hit .cells) k, four)) (absent a))
+          (takes-fifth shape v peer c now-ms s chosen (rw (place-absent (hasId (c .request-id)) (s .hit .cells) a) (place-absent isFree (s .hit .cells) k)))
+          (arrive-fifth shape peer b c now-ms (omega (arith, used, tally-all isFree (s .hit .cells) k, four)) (absent a))
       frees a (inr u) =
           open-both s chosen (s .fails) behind u a
           (ap (λ (muid : ℕ). cellsOpen muid (u .before)) (sym (own-muid peer (rel .tidy) s)))
@@ -213,16 +220,17 @@ module _ {n : ℕ} {v : Value} {b : Model} (rel : Rel n v b) (peer : ℕ) (c : C
             fewer = omega (arith, used, four, split-short u isUsed (rw (u .passes)));
           })
         where
-          found : (every isFree (s .hit .cells) ≡ true) ⊎ (every isFree (s .hit .cells) ≡ false) → findsRecord n peer b ≡ true
+          found : (every isFree (s .hit .cells) ≡ true) ⊎ (every isFree (s .hit .cells) ≡ false) → findsRecord (shape .«max_peers») peer b ≡ true
           found (inl w) = finds-idle rel peer s w
-          found (inr w) = finds-open n peer b (omega (arith, used, used-some (s .hit .cells) w))
+          found (inr w) = finds-open (shape .«max_peers») peer b (omega (arith, used, used-some (s .hit .cells) w))
 
       ids : NoneOf (hasId (c .request-id)) (s .hit .cells) ⊎ Split (hasId (c .request-id)) (s .hit .cells) → Goal
       ids (inl a) = frees a (view isFree (s .hit .cells))
       ids (inr u) =
           let o = own-open rel peer (c .request-id) s u in
           judged-both s chosen (s .fails) behind u (rw (split-place u)) (o .3)
-          (arrive-open n peer b (o .0) c now-ms (o .2) ∙ ap (λ (x : Option Open). arrived peer (c .request-id) b (judged (touchedAt x now-ms) c)) (sym (o .1)))
+          (arrive-open shape peer b (o .0) c now-ms (o .2)
+          ∙ ap (λ (x : Option Open). arrived peer (c .request-id) b (judged shape (touchedAt x now-ms) c)) (sym (o .1)))
 
   pub take-rel : Goal
   take-rel = owns (view (isOwn peer) (v .recs))
@@ -230,8 +238,9 @@ module _ {n : ℕ} {v : Value} {b : Model} (rel : Rel n v b) (peer : ℕ) (c : C
       idles : Apart peer (v .recs) → NoneOf isUnbound (v .recs) → NoneOf isIdle (v .recs) ⊎ Split isIdle (v .recs) → Goal
       idles apart bound (inl a) =
           refused-both 7
-          (takes-full v peer c now-ms (rw (place-absent (isOwn peer) (v .recs) apart, place-absent isUnbound (v .recs) bound) (place-absent isIdle (v .recs) a)))
-          (arrive-full n peer b c now-ms (tally-is rel peer ∙ away-tally peer (opens v) (apart-away peer (v .recs) (rel .tidy) apart))
+          (takes-full shape v peer c now-ms
+          (rw (place-absent (isOwn peer) (v .recs) apart, place-absent isUnbound (v .recs) bound) (place-absent isIdle (v .recs) a)))
+          (arrive-full shape peer b c now-ms (tally-is rel peer ∙ away-tally peer (opens v) (apart-away peer (v .recs) (rel .tidy) apart))
           (omega (arith, peers-are rel, tally-all isIdle (v .recs) a, rel .size)))
       idles apart bound (inr s) =
           idle-both s (rw (place-absent (isOwn peer) (v .recs) apart, place-absent isUnbound (v .recs) bound) (split-place s)) apart (s .passes)

@@ -5,15 +5,16 @@ use mathlib.Core.Bool.{Bool, true, false, cond, not, _&&_, _||_}
 use mathlib.Core.List.{List, [], _∷_, _++_, map}
 use mathlib.Core.Option.{Option, none, some}
 use lib.Dec.{leb, eqb}
-use lib.ListN.{length, getD, set}
+use lib.ListN.{getD, set}
 use Rattle.seven_bit.specs.Reply.{Reply, refused}
 use Rattle.pe_frame.specs.Chunk.{Chunk}
 use Rattle.pe_slot.specs.Slot.{Event}
 use Rattle.pe_slot.specs.Memory.{slotOf, contents}
+use Rattle.pe_reassembler.specs.declared.shape.Shape.{Shape}
 use Rattle.pe_reassembler.specs.Table.{peerAt, isBound, orElse}
 use Rattle.pe_reassembler.specs.Feed.{wordsPart, roomPart, nextTick}
 use Rattle.pe_run.specs.Lists.{tally}
-use Rattle.pe_run.specs.Model.{Open, Entry, Model, isNone, entryOf, touchedAt, Judged, judged}
+use Rattle.pe_run.specs.Model.{Open, Model, isNone, entryOf, touchedAt, Judged, judged}
 use Rattle.pe_run.specs.Run.{Table}
 
 pub record Cell : Type 0 where
@@ -39,23 +40,25 @@ cellOf words index header arena =
       state = cond (eqb (getD words 0 0) 0) none (some (record { time = getD words 2 0; slot = contents (slotOf words) index header arena }));
     }
 
-unfoldable pub cellAt : Table → ℕ → ℕ → Cell
-cellAt t p s = cellOf (wordsPart (t .numbers) p s) (roomPart 2048 (t .index) p s) (roomPart 4096 (t .headers) p s) (roomPart 65536 (t .arenas) p s)
+unfoldable pub cellAt : Shape → Table → ℕ → ℕ → Cell
+cellAt shape t p s =
+    cellOf (wordsPart (t .numbers) p s) (roomPart (shape .«fragment_records») (t .index) p s) (roomPart (shape .«header_bytes») (t .headers) p s)
+    (roomPart (shape .«tx_bytes») (t .arenas) p s)
 
-unfoldable pub recAt : Table → ℕ → Rec
-recAt t p =
+unfoldable pub recAt : Shape → Table → ℕ → Rec
+recAt shape t p =
     record {
       bound = isBound (t .numbers) p;
       muid = getD (t .numbers) (peerAt p + 1) 0;
-      cells = cellAt t p 0 ∷ cellAt t p 1 ∷ cellAt t p 2 ∷ cellAt t p 3 ∷ [];
+      cells = cellAt shape t p 0 ∷ cellAt shape t p 1 ∷ cellAt shape t p 2 ∷ cellAt shape t p 3 ∷ [];
     }
 
-unfoldable pub recsFrom : Table → ℕ → ℕ → List Rec
-recsFrom t p zero = []
-recsFrom t p (suc k) = recAt t p ∷ recsFrom t (suc p) k
+unfoldable pub recsFrom : Shape → Table → ℕ → ℕ → List Rec
+recsFrom shape t p zero = []
+recsFrom shape t p (suc k) = recAt shape t p ∷ recsFrom shape t (suc p) k
 
-unfoldable pub valueOf : ℕ → Table → Value
-valueOf n t = record { clock = getD (t .numbers) 0 0; recs = recsFrom t 0 n }
+unfoldable pub valueOf : Shape → Table → Value
+valueOf shape t = record { clock = getD (t .numbers) 0 0; recs = recsFrom shape t 0 (shape .«max_peers») }
 
 -- ---- what `new` makes
 abbrev pub noCell : Cell
@@ -125,9 +128,9 @@ abbrev pub cellWith : ℕ → ℕ → Option Open → Cell
 cellWith tick request-id none = record { tick = tick; request-id = 0; state = none }
 cellWith tick request-id (some o) = record { tick = tick; request-id = request-id; state = some o }
 
-unfoldable pub takeCell : Value → ℕ → Chunk → ℕ → ℕ → Rec → ℕ → Taken
-takeCell v peer c now-ms p r s =
-    let j : Judged = judged (touchedAt (getD (r .cells) s noCell .state) now-ms) c in
+unfoldable pub takeCell : Shape → Value → ℕ → Chunk → ℕ → ℕ → Rec → ℕ → Taken
+takeCell shape v peer c now-ms p r s =
+    let j : Judged = judged shape (touchedAt (getD (r .cells) s noCell .state) now-ms) c in
     record {
       value = record {
         clock = nextTick (v .clock);
@@ -136,16 +139,16 @@ takeCell v peer c now-ms p r s =
       answer = j .answer;
     }
 
-unfoldable pub takeRec : Value → ℕ → Chunk → ℕ → ℕ → Rec → Option ℕ → Taken
-takeRec v peer c now-ms p r none = record { value = v; answer = refused 6 0 }
-takeRec v peer c now-ms p r (some s) = takeCell v peer c now-ms p r s
+unfoldable pub takeRec : Shape → Value → ℕ → Chunk → ℕ → ℕ → Rec → Option ℕ → Taken
+takeRec shape v peer c now-ms p r none = record { value = v; answer = refused 6 0 }
+takeRec shape v peer c now-ms p r (some s) = takeCell shape v peer c now-ms p r s
 
-unfoldable pub takeAt : Value → ℕ → Chunk → ℕ → Option ℕ → Taken
-takeAt v peer c now-ms none = record { value = v; answer = refused 7 0 }
-takeAt v peer c now-ms (some p) = let r = getD (v .recs) p noRec in takeRec v peer c now-ms p r (chooseCell (c .request-id) (r .cells))
+unfoldable pub takeAt : Shape → Value → ℕ → Chunk → ℕ → Option ℕ → Taken
+takeAt shape v peer c now-ms none = record { value = v; answer = refused 7 0 }
+takeAt shape v peer c now-ms (some p) = let r = getD (v .recs) p noRec in takeRec shape v peer c now-ms p r (chooseCell (c .request-id) (r .cells))
 
-unfoldable pub takes : Value → ℕ → Chunk → ℕ → Taken
-takes v peer c now-ms = takeAt v peer c now-ms (choose peer (v .recs))
+unfoldable pub takes : Shape → Value → ℕ → Chunk → ℕ → Taken
+takes shape v peer c now-ms = takeAt shape v peer c now-ms (choose peer (v .recs))
 
 -- ---- the calls that close
 -- closed: its tick stays

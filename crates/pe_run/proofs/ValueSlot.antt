@@ -6,7 +6,7 @@ use mathlib.Core.List.{List, []}
 use mathlib.Core.Logic.{_⊎_, inl, inr}
 use mathlib.Core.Option.{none, some}
 use mathlib.Core.Path.{_≡_, refl, sym, ap, _∙_}
-use borrow.Author.Tests.{eqb-true}
+use borrow.Author.Tests.{le-leb, eqb-true}
 use lib.Dec.{leb, eqb}
 use lib.ListN.{length, getD, take}
 use Rattle.seven_bit.proofs.ReplyLaws.{both, and-told}
@@ -16,7 +16,9 @@ use Rattle.pe_slot.specs.Slot.{Slot, Verdict, judge, slotAfter}
 use Rattle.pe_slot.specs.Memory.{slotOf, wordsOf, piecesOf, contents, endsAt, isEnd, isSound}
 use Rattle.pe_slot.specs.Feed.{SlotLeft, touched, grown, closedSlot, toldAnswer, outHeader, outBody, placed, reachedSlot}
 use Rattle.pe_slot.proofs.FeedTheorems.{memory-follows, opened}
+use Rattle.pe_reassembler.proofs.TableLaws.{Ranges}
 use Rattle.pe_reassembler.proofs.SoundLaws.{SlotSound}
+use Rattle.pe_reassembler.specs.declared.shape.Shape.{Shape}
 use Rattle.pe_run.specs.Model.{Open, touchedAt, Judged, judged}
 use Rattle.pe_run.proofs.Value.{cellOf, cellWith, shut}
 
@@ -41,23 +43,26 @@ unfolding isSound
 halves H B R t index e = and-told (laid H B R t index) (unheld t) e
 
 -- a sound slot is sound when it is touched
-touched-sound : (H B R : ℕ) (t : TxSlot) (index : List ℕ) (request-id now-ms tick : ℕ) → isSound H B R t index ≡ true → isSound H B R (touched t request-id now-ms tick) index ≡ true
+touched-sound : (H B R : ℕ) (t : TxSlot) (index : List ℕ) (request-id now-ms tick : ℕ) → isSound H B R t index ≡ true
+    → isSound H B R (touched t request-id now-ms tick) index ≡ true
 unfolding isSound
 touched-sound H B R t index request-id now-ms tick e =
     let p : laid H B R t index ≡ true = halves H B R t index e .0 in
     rw (p, opened (t .active))
 
--- the lengths of a slot's parts at full size
-pub record Sized (words index header arena : List ℕ) : Type 0 where
+-- the lengths of a slot's parts
+pub record Sized (shape : Shape) (words index header arena : List ℕ) : Type 0 where
   pub words-size : length words ≡ 9
-  pub index-size : length index ≡ 2048
-  pub header-size : length header ≡ 4096
-  pub arena-size : length arena ≡ 65536
+  pub index-size : length index ≡ shape .«fragment_records»
+  pub header-size : length header ≡ shape .«header_bytes»
+  pub arena-size : length arena ≡ shape .«tx_bytes»
 
-module _ (words index header arena : List ℕ) (neat : SlotSound 4096 65536 2048 words index) where
+module _ (shape : Shape) (words index header arena : List ℕ)
+    (neat : SlotSound (shape .«header_bytes») (shape .«tx_bytes») (shape .«fragment_records») words index) where
   no-records : eqb (getD words 0 0) 0 ≡ true → getD words 7 0 ≡ 0
   no-records e =
-      let p : unheld (slotOf words) ≡ true = halves 4096 65536 2048 (slotOf words) index (neat .sound) .1 in
+      let p : unheld (slotOf words) ≡ true =
+      halves (shape .«header_bytes») (shape .«tx_bytes») (shape .«fragment_records») (slotOf words) index (neat .sound) .1 in
       let q : (eqb (getD words 6 0) 0 && eqb (getD words 7 0) 0) ≡ true = rw e at p in
       eqb-true _ _ (and-told (eqb (getD words 6 0) 0) (eqb (getD words 7 0) 0) q .1)
 
@@ -68,7 +73,8 @@ module _ (words index header arena : List ℕ) (neat : SlotSound 4096 65536 2048
       rw (b .1, b .0, no-records e)
 
   -- what a slot holds is what its cell is opened with
-  held-slot : (now-ms : ℕ) → touchedAt (cellOf words index header arena .state) now-ms ≡ record { time = now-ms; slot = contents (slotOf words) index header arena }
+  held-slot : (now-ms : ℕ)
+      → touchedAt (cellOf words index header arena .state) now-ms ≡ record { time = now-ms; slot = contents (slotOf words) index header arena }
   unfolding cellOf
   held-slot now-ms = go (both (eqb (getD words 0 0) 0))
     where
@@ -93,14 +99,16 @@ cell-left true t c v request-id now-ms tick index header arena s e = refl
 cell-left false t c v request-id now-ms tick index header arena s e = rw (opened (t .active), e refl)
 
 -- what a feed leaves
-module _ (words index header arena : List ℕ) (c : Chunk) (now-ms tick : ℕ) (out-header out-body : List ℕ)
-    (size : Sized words index header arena) (neat : SlotSound 4096 65536 2048 words index)
-    (header-room : 4096 ≤ length out-header) (body-room : 65536 ≤ length out-body) (short : length (c .property) ≤ 16383) (named : c .chunk-num < 65536) where
+module _ (shape : Shape) (words index header arena : List ℕ) (c : Chunk) (now-ms tick : ℕ) (out-header out-body : List ℕ)
+    (range : Ranges shape) (size : Sized shape words index header arena)
+    (neat : SlotSound (shape .«header_bytes») (shape .«tx_bytes») (shape .«fragment_records») words index)
+    (header-room : shape .«header_bytes» ≤ length out-header) (body-room : shape .«tx_bytes» ≤ length out-body) (short : length (c .property) ≤ 16383)
+    (named : c .chunk-num < 65536) where
   abbrev held : Slot
   held = contents (slotOf words) index header arena
 
   abbrev verdict : Verdict
-  verdict = judge 4096 65536 2048 held c
+  verdict = judge (shape .«header_bytes») (shape .«tx_bytes») (shape .«fragment_records») held c
 
   abbrev fed : SlotLeft
   fed = reachedSlot words index header arena c now-ms tick out-header out-body
@@ -115,21 +123,25 @@ module _ (words index header arena : List ℕ) (c : Chunk) (now-ms tick : ℕ) (
   unfolding contents
   follows q =
       let e : isSound (length header) (length arena) (length index) (touched (slotOf words) (c .request-id) now-ms tick) index ≡ true =
-      rw (size .index-size, size .header-size, size .arena-size) (touched-sound 4096 65536 2048 (slotOf words) index (c .request-id) now-ms tick (neat .sound)) in
+      rw (size .index-size, size .header-size, size .arena-size)
+      (touched-sound (shape .«header_bytes») (shape .«tx_bytes») (shape .«fragment_records») (slotOf words) index (c .request-id) now-ms tick (neat .sound)) in
       let f = memory-follows (touched (slotOf words) (c .request-id) now-ms tick) index header arena c out-header out-body e short named in
       let g = rw (size .index-size, size .header-size, size .arena-size) at f in
       g q
 
-  left-cell : cellOf (left .words) (left .index) (left .header) (left .arena) ≡ cellWith tick (c .request-id) (judged (record { time = now-ms; slot = held }) c .left)
+  left-cell : cellOf (left .words) (left .index) (left .header) (left .arena) ≡ cellWith tick (c .request-id)
+      (judged shape (record { time = now-ms; slot = held }) c .left)
   unfolding judged placed
-  left-cell = cell-left (verdict .closes) (slotOf words) c verdict (c .request-id) now-ms tick (left .index) (left .header) (left .arena) (slotAfter held c verdict) follows
+  left-cell =
+      cell-left (verdict .closes) (slotOf words) c verdict (c .request-id) now-ms tick (left .index) (left .header) (left .arena)
+      (slotAfter held c verdict) follows
 
   -- the cell after it, the answer and the outputs
   abbrev told : Judged
-  told = judged (touchedAt (cellOf words index header arena .state) now-ms) c
+  told = judged shape (touchedAt (cellOf words index header arena .state) now-ms) c
 
-  told-is : told ≡ judged (record { time = now-ms; slot = held }) c
-  told-is = ap (λ (o : Open). judged o c) (held-slot words index header arena neat now-ms)
+  told-is : told ≡ judged shape (record { time = now-ms; slot = held }) c
+  told-is = ap (λ (o : Open). judged shape o c) (held-slot shape words index header arena neat now-ms)
 
   pub fed-cell : cellOf (fed .words) (fed .index) (fed .header) (fed .arena) ≡ cellWith tick (c .request-id) (told .left)
   fed-cell =
@@ -137,7 +149,8 @@ module _ (words index header arena : List ℕ) (c : Chunk) (now-ms tick : ℕ) (
       ∙ left-cell
       ∙ ap (λ (j : Judged). cellWith tick (c .request-id) (j .left)) (sym told-is)
 
-  pub fed-told : (fed .answer ≡ toldAnswer (told .answer)) × (fed .out-header ≡ outHeader (told .answer) out-header) × (fed .out-body ≡ outBody (told .answer) out-body)
+  pub fed-told : (fed .answer ≡ toldAnswer (told .answer)) × (fed .out-header ≡ outHeader (told .answer) out-header) ×
+      (fed .out-body ≡ outBody (told .answer) out-body)
   unfolding judged placed
   fed-told = (
     ap (λ (x : SlotLeft). x .answer) fed-is ∙ ap (λ (j : Judged). toldAnswer (j .answer)) (sym told-is),

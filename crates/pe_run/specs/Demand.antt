@@ -2,7 +2,7 @@
 -- Assumes nothing.
 use Prim.Native.Nat.{ℕ, suc, _-_, _*_, _+_, _≤_, _<_}
 use mathlib.Core.Bool.{Bool, true, false, cond, _&&_}
-use mathlib.Core.List.{List, [], _∷_, _++_}
+use mathlib.Core.List.{List, [], _∷_, _++_, map}
 use mathlib.Core.Option.{Option, none, some}
 use mathlib.Core.Path.{_≡_}
 use lib.Dec.{eqb}
@@ -10,11 +10,16 @@ use lib.ListN.{length, getD, drop}
 use Rattle.seven_bit.specs.Reply.{granted}
 use Rattle.pe_slot.specs.Feed.{still, lengths}
 use Rattle.pe_chunker.specs.Cut.{cutCount, cutChunk}
+use Rattle.pe_reassembler.specs.declared.shape.Shape.{Shape}
 use Rattle.pe_reassembler.specs.Open.{Perm, Shown, openSlots}
 use Rattle.pe_run.specs.Lists.{tally}
 use Rattle.pe_run.specs.Model.{Model, find, openOf, findsRecord, Act, arrive, cancel, drop as drop-all, poll, nothing}
-use Rattle.pe_run.specs.Calls.{Call, feed, feed-message, Answer, fed, Arrival, arrivalOf, actOf, modelAfter, AllRight}
-use Rattle.pe_run.specs.Run.{Table, fullSize, made, tableFrom, Run}
+use Rattle.pe_run.specs.Calls.{Call, Answer, fed, Arrival, arrivalOf, actOf, modelAfter, AllRight}
+use Rattle.pe_run.specs.Run.{Table, made, tableFrom, Run}
+
+-- "Full size is H 4,096, B 65,536, R 2,048"
+abbrev pub fullSize : ℕ → Shape
+fullSize n = record { «max_peers» = n; «header_bytes» = 4096; «tx_bytes» = 65536; «fragment_records» = 2048 }
 
 -- Memory long enough for a full-size table of n peers, whatever it holds.
 pub record LongEnough (n : ℕ) (t : Table) : Type 0 where
@@ -29,63 +34,46 @@ pub record CutInto (request-id : ℕ) (header body : List ℕ) (limit : ℕ) (ch
   pub count : cutCount request-id header body limit ≡ granted (length chunks)
   pub each : (k : ℕ) → k < length chunks → cutChunk request-id header body limit (suc k) 4096 ≡ granted (getD chunks k [])
 
--- Does a chunk arrive with the call under this peer and request id?
+-- Is it under this peer and request id? Does such a chunk arrive with the call?
 abbrev pub isUnder : ℕ → ℕ → Option Arrival → Bool
 isUnder peer request-id none = false
 isUnder peer request-id (some a) = eqb peer (a .peer) && eqb request-id (a .chunk .request-id)
 
-abbrev pub isOurs : ℕ → ℕ → Call → Bool
-isOurs peer request-id c = isUnder peer request-id (arrivalOf c)
+abbrev pub isOurs : Shape → ℕ → ℕ → Call → Bool
+isOurs shape peer request-id c = isUnder peer request-id (arrivalOf shape c)
 
-abbrev pub ours : ℕ → ℕ → List Call → List Call
-ours peer request-id [] = []
-ours peer request-id (c ∷ calls) = cond (isOurs peer request-id c) (c ∷ ours peer request-id calls) (ours peer request-id calls)
+-- What arrives under them, in the order in which it does.
+abbrev pub oursOf : ℕ → ℕ → Option Arrival → List Arrival
+oursOf peer request-id none = []
+oursOf peer request-id (some a) = cond (isUnder peer request-id (some a)) (a ∷ []) []
 
--- Their bytes, in the order in which they arrive.
-abbrev pub bytesOf : Option Arrival → List (List ℕ)
-bytesOf none = []
-bytesOf (some a) = a .bytes ∷ []
-
-abbrev pub arrivals : List Call → List (List ℕ)
-arrivals [] = []
-arrivals (c ∷ calls) = bytesOf (arrivalOf c) ++ arrivals calls
+abbrev pub ours : Shape → ℕ → ℕ → List Call → List Arrival
+ours shape peer request-id [] = []
+ours shape peer request-id (c ∷ calls) = oursOf peer request-id (arrivalOf shape c) ++ ours shape peer request-id calls
 
 -- The answers to those calls.
-abbrev pub answersTo : ℕ → ℕ → List Call → List Answer → List Answer
-answersTo peer request-id (c ∷ calls) (a ∷ answers) = cond (isOurs peer request-id c) (a ∷ answersTo peer request-id calls answers) (answersTo peer request-id calls answers)
-answersTo peer request-id [] answers = []
-answersTo peer request-id (c ∷ calls) [] = []
+abbrev pub answersTo : Shape → ℕ → ℕ → List Call → List Answer → List Answer
+answersTo shape peer request-id (c ∷ calls) (a ∷ answers) =
+    cond (isOurs shape peer request-id c) (a ∷ answersTo shape peer request-id calls answers) (answersTo shape peer request-id calls answers)
+answersTo shape peer request-id [] answers = []
+answersTo shape peer request-id (c ∷ calls) [] = []
 
 -- "A list is *handed out* when the answer is whole with its two lengths and the outputs begin with exactly its header and body; an answer of
 -- waiting leaves both outputs unchanged."
-pub record Outputs : Type 0 where
-  pub out-header : List ℕ
-  pub out-body : List ℕ
+abbrev pub waits : Arrival → Answer
+waits a = fed (granted still) (a .out-header) (a .out-body)
 
-abbrev pub outputs : Call → Outputs
-outputs (feed peer chunk now-ms out-header out-body) = record { out-header = out-header; out-body = out-body }
-outputs (feed-message message now-ms out-header out-body) = record { out-header = out-header; out-body = out-body }
-outputs (Call.cancel peer request-id) = record { out-header = []; out-body = [] }
-outputs (Call.drop-peer peer) = record { out-header = []; out-body = [] }
-outputs (Call.poll now-ms out-peers out-ids) = record { out-header = []; out-body = [] }
-outputs Call.memory-stats = record { out-header = []; out-body = [] }
-outputs Call.reserved-bytes = record { out-header = []; out-body = [] }
-outputs (Call.open-list out-peers out-ids out-held) = record { out-header = []; out-body = [] }
-
-abbrev pub waits : Call → Answer
-waits c = fed (granted still) (outputs c .out-header) (outputs c .out-body)
-
-abbrev pub handsOut : List ℕ → List ℕ → Call → Answer
-handsOut header body c =
+abbrev pub handsOut : List ℕ → List ℕ → Arrival → Answer
+handsOut header body a =
     fed (granted (lengths (length header) (length body)))
-    (header ++ drop (length header) (outputs c .out-header))
-    (body ++ drop (length body) (outputs c .out-body))
+    (header ++ drop (length header) (a .out-header))
+    (body ++ drop (length body) (a .out-body))
 
 -- Waiting, but for the last, which hands the list out.
-abbrev pub delivered : List ℕ → List ℕ → List Call → List Answer
+abbrev pub delivered : List ℕ → List ℕ → List Arrival → List Answer
 delivered header body [] = []
-delivered header body (c ∷ []) = handsOut header body c ∷ []
-delivered header body (c ∷ d ∷ calls) = waits c ∷ delivered header body (d ∷ calls)
+delivered header body (a ∷ []) = handsOut header body a ∷ []
+delivered header body (a ∷ b ∷ more) = waits a ∷ delivered header body (b ∷ more)
 
 -- The first chunk: its peer finds a record, its request id is not open there, and fewer than four are.
 pub record Room (n peer request-id : ℕ) (b : Model) : Type 0 where
@@ -103,32 +91,29 @@ Spared peer request-id last (drop-all q ∷ acts) = (eqb peer q ≡ false) × Sp
 Spared peer request-id last (poll now-ms ∷ acts) = (now-ms - last < 3000) × Spared peer request-id last acts
 Spared peer request-id last (nothing ∷ acts) = Spared peer request-id last acts
 
-abbrev pub actsOf : ℕ → List Call → List Act
-actsOf n [] = []
-actsOf n (c ∷ calls) = actOf n c ∷ actsOf n calls
-
 -- A list that is cut, its body of at most 65,536 bytes. Its first chunk arrives and finds room; from then on each chunk arrives once, bare or in a
 -- message, in any order and by any call, and no other under that peer and request id; and no call closes it.
 pub record Delivery (n : ℕ) (b : Model) (peer request-id : ℕ) (header body : List ℕ) (limit : ℕ) (first : Call) (rest : List Call) : Type 0 where
   pub chunks : List (List ℕ)
   pub cut : CutInto request-id header body limit chunks
   pub fits : length body ≤ 65536
-  pub first-of-them : isOurs peer request-id first ≡ true
+  pub first-of-them : isOurs (fullSize n) peer request-id first ≡ true
   pub room : Room n peer request-id b
-  pub each-once : Perm (arrivals (ours peer request-id (first ∷ rest))) chunks
-  pub spared : Spared peer request-id 0 (actsOf n (first ∷ rest))
+  pub each-once : Perm (map (λ (a : Arrival). a .bytes) (ours (fullSize n) peer request-id (first ∷ rest))) chunks
+  pub spared : Spared peer request-id 0 (map (actOf (fullSize n)) (first ∷ rest))
 
--- Of every run on a table that `new` has just made of memory t:
+-- Of every run on a full-size table of n peers that `new` has just made of memory t:
 pub record Demand3 (n : ℕ) (t : Table) : Type 0 where
   -- every answer is the model's;
-  pub answers : (calls : List Call) (told : List Answer) → Run n (made n t) calls told → AllRight n [] calls told
+  pub answers : (calls : List Call) (told : List Answer) → Run (fullSize n) (made (fullSize n) t) calls told → AllRight (fullSize n) [] calls told
   -- no peer ever has more than four slots open;
-  pub four : (calls : List Call) (peer : ℕ) → tally (λ (r : Shown). eqb peer (r .peer)) (openSlots (fullSize n) (tableFrom n (made n t) calls .numbers)) ≤ 4
+  pub four : (calls : List Call) (peer : ℕ)
+      → tally (λ (r : Shown). eqb peer (r .peer)) (openSlots (fullSize n) (tableFrom (fullSize n) (made (fullSize n) t) calls .numbers)) ≤ 4
   -- and a list whose chunks arrive is handed out with the last of them.
   pub delivery : (before : List Call) (peer request-id : ℕ) (header body : List ℕ) (limit : ℕ) (first : Call) (rest : List Call) (told : List Answer)
-      → Delivery n (modelAfter n before) peer request-id header body limit first rest
-      → Run n (tableFrom n (made n t) before) (first ∷ rest) told
-      → answersTo peer request-id (first ∷ rest) told ≡ delivered header body (ours peer request-id (first ∷ rest))
+      → Delivery n (modelAfter (fullSize n) before) peer request-id header body limit first rest
+      → Run (fullSize n) (tableFrom (fullSize n) (made (fullSize n) t) before) (first ∷ rest) told
+      → answersTo (fullSize n) peer request-id (first ∷ rest) told ≡ delivered header body (ours (fullSize n) peer request-id (first ∷ rest))
 
 abbrev pub Demand : Type 0
 Demand = (n : ℕ) (t : Table) → n ≤ 16 → LongEnough n t → Demand3 n t

@@ -3,3 +3,4 @@ pub mod Model
 pub mod Calls
 pub mod Run
 pub mod Demand
+pub mod Instance

@@ -21,6 +21,6 @@ memb n [] = false
 memb n (x ∷ xs) = cond (eqb n x) true (memb n xs)
 
 -- How many different numbers there are.
-abbrev pub kinds : List ℕ → ℕ
-kinds [] = 0
-kinds (x ∷ xs) = cond (memb x xs) (kinds xs) (suc (kinds xs))
+abbrev pub different : List ℕ → ℕ
+different [] = 0
+different (x ∷ xs) = cond (memb x xs) (different xs) (suc (different xs))

@@ -6,11 +6,11 @@ use mathlib.Core.Bool.{Bool, true, false, cond, not, _&&_, _||_}
 use mathlib.Core.List.{List, [], _∷_, _++_, map}
 use mathlib.Core.Option.{Option, none, some}
 use lib.Dec.{leb, ltb, eqb}
-use lib.ListN.{length}
 use Rattle.seven_bit.specs.Reply.{Reply, refused}
 use Rattle.pe_frame.specs.Chunk.{Chunk}
 use Rattle.pe_slot.specs.Slot.{Slot, Event, Verdict, judge, slotAfter}
-use Rattle.pe_run.specs.Lists.{keep, tally, kinds}
+use Rattle.pe_reassembler.specs.declared.shape.Shape.{Shape}
+use Rattle.pe_run.specs.Lists.{keep, tally, different}
 
 -- What is open: the time of its last chunk, and header, count and pieces.
 pub record Open : Type 0 where
@@ -51,7 +51,7 @@ abbrev pub peerOf : Entry → ℕ
 peerOf e = e .peer
 
 abbrev pub peersOpen : Model → ℕ
-peersOpen b = kinds (map peerOf b)
+peersOpen b = different (map peerOf b)
 
 -- "A console finds a record if it has a transfer open in the book, or fewer than n consoles have."
 unfoldable pub findsRecord : ℕ → ℕ → Model → Bool
@@ -66,14 +66,14 @@ abbrev pub touchedAt : Option Open → ℕ → Open
 touchedAt none now-ms = record { time = now-ms; slot = record { header = none; count = 0; pieces = [] } }
 touchedAt (some o) now-ms = record { time = now-ms; slot = o .slot }
 
--- "**Transfer**'s questions are put to the book, with what they store, take and close", at full size: H 4,096, B 65,536, R 2,048.
+-- "**Transfer**'s questions are put to the book, with what they store, take and close", at the shape's H, B and R.
 pub record Judged : Type 0 where
   pub left : Option Open
   pub answer : Reply Event
 
-unfoldable pub judged : Open → Chunk → Judged
-judged o c =
-    let v : Verdict = judge 4096 65536 2048 (o .slot) c in
+unfoldable pub judged : Shape → Open → Chunk → Judged
+judged shape o c =
+    let v : Verdict = judge (shape .«header_bytes») (shape .«tx_bytes») (shape .«fragment_records») (o .slot) c in
     record {
       left = cond (v .closes) none (some (record { time = o .time; slot = slotAfter (o .slot) c v }));
       answer = v .answer;
@@ -96,11 +96,11 @@ arrived peer request-id b j = record { model = entryOf peer request-id (j .left)
 
 -- A chunk that arrives. "It stays too at 7, when its console has nothing open and n others have, and at 6, when its id is not open there
 -- and four others are. Else its transfer, opened if need be, takes the call's time, and **Transfer**'s questions are put to the book".
-unfoldable pub arrives : ℕ → Model → ℕ → Chunk → ℕ → Arrived
-arrives n b peer c now-ms =
-    cond (not (findsRecord n peer b)) (record { model = b; answer = refused 7 0 })
+unfoldable pub arrives : Shape → Model → ℕ → Chunk → ℕ → Arrived
+arrives shape b peer c now-ms =
+    cond (not (findsRecord (shape .«max_peers») peer b)) (record { model = b; answer = refused 7 0 })
     (cond (hasFour peer (c .request-id) b) (record { model = b; answer = refused 6 0 })
-    (arrived peer (c .request-id) b (judged (touchedAt (find peer (c .request-id) b) now-ms) c)))
+    (arrived peer (c .request-id) b (judged shape (touchedAt (find peer (c .request-id) b) now-ms) c)))
 
 -- What a call means for the model. `nothing`: a call that is refused ahead of **Table**'s questions, and one that changes nothing.
 pub data Act : Type 0 where
@@ -112,9 +112,9 @@ pub data Act : Type 0 where
 
 -- "Cancel closes the transfer it names, drop all of its console, poll those with now − time at least 3,000 (0 if the clock went back).
 -- Refused, they change nothing; the other calls never do."
-abbrev pub after : ℕ → Model → Act → Model
-after n b (arrive peer c now-ms) = arrives n b peer c now-ms .model
-after n b (cancel peer request-id) = without peer request-id b
-after n b (drop peer) = keep (λ (e : Entry). not (isOf peer e)) b
-after n b (poll now-ms) = keep (λ (e : Entry). not (isLate now-ms e)) b
-after n b nothing = b
+abbrev pub acted : Shape → Model → Act → Model
+acted shape b (arrive peer c now-ms) = arrives shape b peer c now-ms .model
+acted shape b (cancel peer request-id) = without peer request-id b
+acted shape b (drop peer) = keep (λ (e : Entry). not (isOf peer e)) b
+acted shape b (poll now-ms) = keep (λ (e : Entry). not (isLate now-ms e)) b
+acted shape b nothing = b

@@ -1,19 +1,17 @@
--- The run: "any sequence of the eight .. with any arguments, naming the shape of a full-size table of n consoles that `new` has just made.
--- Each gets the table the last one left; nobody else writes it meanwhile." What a call answers and leaves is what its contract says.
+-- The run: "any sequence of the eight .. with any arguments, naming the shape of a .. table .. that `new` has just made. Each gets the table
+-- the last one left; nobody else writes it meanwhile." What a call answers and leaves is what its contract says. Demand 3 is about full size.
 -- Assumes nothing.
 use Prim.Native.Nat.{ℕ}
+use mathlib.Core.Bool.{true}
 use mathlib.Core.List.{List, [], _∷_}
 use mathlib.Core.Path.{_≡_}
 use Rattle.pe_reassembler.specs.declared.shape.Shape.{Shape}
+use Rattle.pe_reassembler.specs.Table.{hasRooms}
 use Rattle.pe_reassembler.specs.Feed.{Memory, memory, FeedLeft, feedCall, messageCall}
 use Rattle.pe_reassembler.specs.Calls.{newCall, cancelCall, dropCall, statsCall, reservedCall}
 use Rattle.pe_reassembler.specs.Poll.{pollCall}
 use Rattle.pe_reassembler.specs.Open.{Listed, OpenList}
-use Rattle.pe_run.specs.Calls.{Call, feed, feed-message, cancel, drop-peer, poll, memory-stats, reserved-bytes, open-list, Answer, fed, closed, counted, timed-out, totals, listed}
-
--- "Full size is H 4,096, B 65,536, R 2,048"
-abbrev pub fullSize : ℕ → Shape
-fullSize n = record { «max_peers» = n; «header_bytes» = 4096; «tx_bytes» = 65536; «fragment_records» = 2048 }
+use Rattle.pe_run.specs.Calls.{Call, feed, feed-message, cancel, drop-peer, poll, memory-stats, reserved-bytes, open-list, Answer, fed, was-open, counted, timed-out, totals, listed}
 
 -- The table's lent memory, without the outputs of a call.
 pub record Table : Type 0 where
@@ -25,10 +23,14 @@ pub record Table : Type 0 where
 abbrev pub table : List ℕ → List ℕ → List ℕ → List ℕ → Table
 table numbers index headers arenas = record { numbers = numbers; index = index; headers = headers; arenas = arenas }
 
+-- Shape in range and memory long enough for it, whatever it holds.
+abbrev pub LongFor : Shape → Table → Type 0
+LongFor shape t = hasRooms shape (t .numbers) (t .index) (t .headers) (t .arenas) ≡ true
+
 -- What `new` leaves of lent memory; the rooms are lent to be read only.
-abbrev pub made : ℕ → Table → Table
-made n t =
-    let r = newCall (fullSize n) (t .numbers) (t .index) (t .headers) (t .arenas) in
+abbrev pub made : Shape → Table → Table
+made shape t =
+    let r = newCall shape (t .numbers) (t .index) (t .headers) (t .arenas) in
     table (r .numbers) (r .index) (t .headers) (t .arenas)
 
 abbrev pub lent : Table → List ℕ → List ℕ → Memory
@@ -41,44 +43,44 @@ abbrev pub renumbered : Table → List ℕ → Table
 renumbered t numbers = table numbers (t .index) (t .headers) (t .arenas)
 
 -- The table after a call.
-abbrev pub step : ℕ → Table → Call → Table
-step n t (feed peer chunk now-ms out-header out-body) = kept (feedCall (fullSize n) (lent t out-header out-body) peer chunk now-ms)
-step n t (feed-message message now-ms out-header out-body) = kept (messageCall (fullSize n) (lent t out-header out-body) message now-ms)
-step n t (cancel peer request-id) = renumbered t (cancelCall (fullSize n) (t .numbers) peer request-id .numbers)
-step n t (drop-peer peer) = renumbered t (dropCall (fullSize n) (t .numbers) peer .numbers)
-step n t (poll now-ms out-peers out-ids) = renumbered t (pollCall (fullSize n) (t .numbers) now-ms out-peers out-ids .numbers)
-step n t memory-stats = t
-step n t reserved-bytes = t
-step n t (open-list out-peers out-ids out-held) = t
+abbrev pub step : Shape → Table → Call → Table
+step shape t (feed peer chunk now-ms out-header out-body) = kept (feedCall shape (lent t out-header out-body) peer chunk now-ms)
+step shape t (feed-message message now-ms out-header out-body) = kept (messageCall shape (lent t out-header out-body) message now-ms)
+step shape t (cancel peer request-id) = renumbered t (cancelCall shape (t .numbers) peer request-id .numbers)
+step shape t (drop-peer peer) = renumbered t (dropCall shape (t .numbers) peer .numbers)
+step shape t (poll now-ms out-peers out-ids) = renumbered t (pollCall shape (t .numbers) now-ms out-peers out-ids .numbers)
+step shape t memory-stats = t
+step shape t reserved-bytes = t
+step shape t (open-list out-peers out-ids out-held) = t
 
-abbrev pub tableFrom : ℕ → Table → List Call → Table
-tableFrom n t [] = t
-tableFrom n t (c ∷ calls) = tableFrom n (step n t c) calls
+abbrev pub tableFrom : Shape → Table → List Call → Table
+tableFrom shape t [] = t
+tableFrom shape t (c ∷ calls) = tableFrom shape (step shape t c) calls
 
 -- Is it an answer that the call's contract allows?
-abbrev pub fedAnswer : FeedLeft → Answer
-fedAnswer r = fed (r .answer) (r .memory .out-header) (r .memory .out-body)
+abbrev pub feedTold : FeedLeft → Answer
+feedTold r = fed (r .answer) (r .memory .out-header) (r .memory .out-body)
 
-pub record Lists (n : ℕ) (t : Table) (out-peers out-ids out-held : List ℕ) (a : Answer) : Type 0 where
-  pub after : Listed
-  pub contract : OpenList (fullSize n) (t .numbers) out-peers out-ids out-held after
-  pub told : a ≡ listed (after .answer) (after .out-peers) (after .out-ids) (after .out-held)
+pub record ListTold (shape : Shape) (t : Table) (out-peers out-ids out-held : List ℕ) (a : Answer) : Type 0 where
+  pub left : Listed
+  pub contract : OpenList shape (t .numbers) out-peers out-ids out-held left
+  pub told : a ≡ listed (left .answer) (left .out-peers) (left .out-ids) (left .out-held)
 
-abbrev pub Answers : ℕ → Table → Call → Answer → Type 0
-Answers n t (feed peer chunk now-ms out-header out-body) a = a ≡ fedAnswer (feedCall (fullSize n) (lent t out-header out-body) peer chunk now-ms)
-Answers n t (feed-message message now-ms out-header out-body) a = a ≡ fedAnswer (messageCall (fullSize n) (lent t out-header out-body) message now-ms)
-Answers n t (cancel peer request-id) a = a ≡ closed (cancelCall (fullSize n) (t .numbers) peer request-id .answer)
-Answers n t (drop-peer peer) a = a ≡ counted (dropCall (fullSize n) (t .numbers) peer .answer)
-Answers n t (poll now-ms out-peers out-ids) a =
-    let r = pollCall (fullSize n) (t .numbers) now-ms out-peers out-ids in
+abbrev pub Answers : Shape → Table → Call → Answer → Type 0
+Answers shape t (feed peer chunk now-ms out-header out-body) a = a ≡ feedTold (feedCall shape (lent t out-header out-body) peer chunk now-ms)
+Answers shape t (feed-message message now-ms out-header out-body) a = a ≡ feedTold (messageCall shape (lent t out-header out-body) message now-ms)
+Answers shape t (cancel peer request-id) a = a ≡ was-open (cancelCall shape (t .numbers) peer request-id .answer)
+Answers shape t (drop-peer peer) a = a ≡ counted (dropCall shape (t .numbers) peer .answer)
+Answers shape t (poll now-ms out-peers out-ids) a =
+    let r = pollCall shape (t .numbers) now-ms out-peers out-ids in
     a ≡ timed-out (r .answer) (r .out-peers) (r .out-ids)
-Answers n t memory-stats a = a ≡ totals (statsCall (fullSize n) (t .numbers))
-Answers n t reserved-bytes a = a ≡ counted (reservedCall (fullSize n))
-Answers n t (open-list out-peers out-ids out-held) a = Lists n t out-peers out-ids out-held a
+Answers shape t memory-stats a = a ≡ totals (statsCall shape (t .numbers))
+Answers shape t reserved-bytes a = a ≡ counted (reservedCall shape)
+Answers shape t (open-list out-peers out-ids out-held) a = ListTold shape t out-peers out-ids out-held a
 
 -- Answers that the contracts allow, from one end of the run to the other.
-abbrev pub Run : ℕ → Table → List Call → List Answer → Type 0
-Run n t [] [] = Unit {0}
-Run n t [] (a ∷ answers) = ⊥
-Run n t (c ∷ calls) [] = ⊥
-Run n t (c ∷ calls) (a ∷ answers) = Answers n t c a × Run n (step n t c) calls answers
+abbrev pub Run : Shape → Table → List Call → List Answer → Type 0
+Run shape t [] [] = Unit {0}
+Run shape t [] (a ∷ answers) = ⊥
+Run shape t (c ∷ calls) [] = ⊥
+Run shape t (c ∷ calls) (a ∷ answers) = Answers shape t c a × Run shape (step shape t c) calls answers
