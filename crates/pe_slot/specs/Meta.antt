@@ -5,10 +5,14 @@ use Prim.Native.Nat.{ℕ}
 use mathlib.Core.Option.{Option, none, some}
 use Rattle.pe_slot.specs.declared.meta.Found.{Found}
 use Rattle.pe_slot.specs.declared.meta.FragmentMeta.{FragmentMeta}
-use Rattle.pe_slot.specs.Memory.{packed}
+use Rattle.pe_slot.specs.Memory.{packed, metaNumber, metaLen, metaOffset}
 
 abbrev pub wordOf : FragmentMeta → ℕ
 wordOf m = packed (m .«chunk_num») (m .len) (m .offset)
+
+-- The record of a word.
+abbrev pub metaOf : ℕ → FragmentMeta
+metaOf x = record { «chunk_num» = metaNumber x; len = metaLen x; offset = metaOffset x }
 
 abbrev pub foundTold : Found → Option ℕ
 foundTold (Found.At i) = some i

@@ -1,8 +1,10 @@
+use mathlib.Core.Path.{ap}
 use native.Mathlib.Omega.{arith}
 use borrow.Author.Tests.{not-true, not-false}
 use denote.Ref.{now}
 use Rattle.pe_frame.specs.Chunk.{Chunk}
 use Rattle.pe_slot.specs.Memory.{slotOf}
+use Rattle.pe_slot.specs.Steps.{askedTold}
 use Rattle.pe_slot.proofs.StepEnds.{Reaching, header-no, ready-header, count-no, ready-count, piece-no, ready-piece, all-passed}
 use borrow.Author.Needs.{needs}
 use Rattle.pe_slot.proofs.slot.feed_sound.Statement.{statement}
@@ -35,7 +37,7 @@ returns c =
     let u5 = c .before .before .before .before .before in
     let u10 = u5 .before .before .before .before .before in
     let u15 = u10 .before .before .before .before .before in
-    header-no (reaching (u15 .before .before .before)) (u5 .before .before .take-header .ensures) (c .before .e .given .1)
+    header-no (reaching (u15 .before .before .before)) (u5 .before .before .take-header .ensures) (ap askedTold (c .before .e .given .1))
 
 enum-told : tie.Need-enum-told
 enum-told c = search needs
@@ -59,7 +61,7 @@ returns-2 c =
     let u10 = u5 .before .before .before .before .before in
     let u15 = u10 .before .before .before .before .before in
     let u20 = u15 .before .before .before .before .before in
-    count-no (reaching (u20 .before .before)) (u10 .before .take-header .ensures) (c .before .before .before .before .before .enum-told .given .1) (c .before .before .before .take-count .ensures) (not-true _ (c .if1 .taken))
+    count-no (reaching (u20 .before .before)) (u10 .before .take-header .ensures) (ap askedTold (c .before .before .before .before .before .enum-told .given .1)) (c .before .before .before .take-count .ensures) (not-true _ (c .if1 .taken))
 
 add-piece-requires : tie.Need-add-piece-requires
 add-piece-requires c κs =
@@ -68,7 +70,7 @@ add-piece-requires c κs =
     let u15 = u10 .before .before .before .before .before in
     let u20 = u15 .before .before .before .before .before in
     let u25 = u20 .before .before .before .before .before in
-    let r = ready-count (reaching (u25)) (u10 .before .before .before .before .take-header .ensures) (u5 .before .before .before .enum-told .given .1) (c .before .before .before .before .before .before .take-count .ensures) in (r .nine, r .bytes, r .body, u25 .pre .1 .0)
+    let r = ready-count (reaching (u25)) (u10 .before .before .before .before .take-header .ensures) (ap askedTold (u5 .before .before .before .enum-told .given .1)) (c .before .before .before .before .before .before .take-count .ensures) in (r .nine, r .bytes, r .body, u25 .pre .1 .0)
 
 enum-known-e-2 : tie.Need-enum-known-e-2
 enum-known-e-2 c = search needs
@@ -94,7 +96,7 @@ returns-3 c =
     let u25 = u20 .before .before .before .before .before in
     let u30 = u25 .before .before .before .before .before in
     let u35 = u30 .before .before .before .before .before in
-    piece-no (reaching (u35)) (u20 .before .before .before .before .take-header .ensures) (u15 .before .before .before .enum-told .given .1) (u15 .before .take-count .ensures) (not-false _ (u10 .before .before .before .if1 .left)) (u5 .before .before .before .before .add-piece .ensures) (c .before .e2 .given .1)
+    piece-no (reaching (u35)) (u20 .before .before .before .before .take-header .ensures) (ap askedTold (u15 .before .before .before .enum-told .given .1)) (u15 .before .take-count .ensures) (not-false _ (u10 .before .before .before .if1 .left)) (u5 .before .before .before .before .add-piece .ensures) (ap askedTold (c .before .e2 .given .1))
 
 enum-told-2 : tie.Need-enum-told-2
 enum-told-2 c = search needs
@@ -109,7 +111,7 @@ finish-requires c κs =
     let u30 = u25 .before .before .before .before .before in
     let u35 = u30 .before .before .before .before .before in
     let u40 = u35 .before .before .before .before .before in
-    ready-piece (reaching (u40)) (u25 .before .before .before .before .take-header .ensures) (u20 .before .before .before .enum-told .given .1) (u20 .before .take-count .ensures) (not-false _ (u15 .before .before .before .if1 .left)) (u10 .before .before .before .before .add-piece .ensures) (c .before .before .before .before .before .before .enum-told2 .given .1)
+    ready-piece (reaching (u40)) (u25 .before .before .before .before .take-header .ensures) (ap askedTold (u20 .before .before .before .enum-told .given .1)) (u20 .before .take-count .ensures) (not-false _ (u15 .before .before .before .if1 .left)) (u10 .before .before .before .before .add-piece .ensures) (ap askedTold (c .before .before .before .before .before .before .enum-told2 .given .1))
 
 same-length-9 : tie.Need-same-length-9
 same-length-9 c = search needs
@@ -140,7 +142,7 @@ returns-4 c =
     let u35 = u30 .before .before .before .before .before in
     let u40 = u35 .before .before .before .before .before in
     let u45 = u40 .before .before .before .before .before in
-    all-passed (reaching (u45 .before .before)) (u35 .before .take-header .ensures) (u30 .enum-told .given .1) (u25 .before .before .before .take-count .ensures) (not-false _ (u25 .if1 .left)) (u20 .before .add-piece .ensures) (u10 .before .before .before .enum-told2 .given .1)
+    all-passed (reaching (u45 .before .before)) (u35 .before .take-header .ensures) (ap askedTold (u30 .enum-told .given .1)) (u25 .before .before .before .take-count .ensures) (not-false _ (u25 .if1 .left)) (u20 .before .add-piece .ensures) (ap askedTold (u10 .before .before .before .enum-told2 .given .1))
     (c .before .before .before .before .before .before .finish .ensures)
 
 pub feed-sound-spec : {M : Type 1} → statement M
