@@ -1,4 +1,5 @@
--- The lookup of a chunk number in a lent slice of `FragmentMeta` (document 01, 'Form by location': "slice of structs walked once, answer is the index or none").
+-- The lookup of a chunk number in a lent slice of `FragmentMeta`.
+-- Document 01, 'Form by location': "slice of structs walked once, answer is the index or none".
 -- A record's word is the one that lent numbers hold, so both forms have one definition: `holds` asks, over words, whether `placeOf` finds a place.
 -- Assumes nothing.
 use Prim.Native.Nat.{ℕ}

@@ -29,7 +29,8 @@ ghost use Rattle.pe_slot.specs.Memory.{slotOf, wordsOf, contents};
 ghost use Rattle.pe_slot.specs.Feed.{slotLeft, feedSlot, fedTold, placed, touched, closeWords};
 ghost use Rattle.pe_slot.specs.Records.{holds};
 ghost use Rattle.pe_frame.specs.Chunk.{chunkFrom};
-ghost use Rattle.pe_slot.specs.Steps.{isBounded, Ready, askedTold, headerTaken, takeHeader, countTaken, takeCount, pieceAdded, addPiece, finished, finishOf};
+ghost use Rattle.pe_slot.specs.Steps.{isBounded, Ready, askedTold, headerTaken, takeHeader, countTaken, takeCount};
+ghost use Rattle.pe_slot.specs.Steps.{pieceAdded, addPiece, finished, finishOf};
 
 // When a chunk comes: the time, and the tick that it gives its slot.
 pub struct Moment {
@@ -53,7 +54,8 @@ fn is_shaped(
     out_header: usize,
     out_body: usize,
 ) -> bool
-    ensures { λ r. ⌜ r ≡ (eqb words slotWords && leb index 2048 && leb header 4096 && leb arena 65536 && leb header «out_header» && leb arena «out_body») ⌝ }
+    ensures { λ r. ⌜ r ≡ (eqb words slotWords && leb index 2048 && leb header 4096 && leb arena 65536
+        && leb header «out_header» && leb arena «out_body») ⌝ }
 {
     if words != SLOT_WORDS {
         return false;
