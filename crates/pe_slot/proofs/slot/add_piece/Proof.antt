@@ -21,18 +21,18 @@ returns : tie.Need-returns
 unfolding addPiece
 returns c =
     let start = c .before .before .before .before .before .before .before .before .before in
-    rw (eq-eqb _ _ (c .before .before .before .before .if1 .taken), c .before .before .close .ensures ∙ close-nine _ (start .pre .0))
+    rw (eq-eqb (start .args .chunk-num) 0 (c .before .before .before .before .if1 .taken), c .before .before .close .ensures ∙ close-nine _ (start .pre .0))
 
 returns-2 : tie.Need-returns-2
 unfolding addPiece
-returns-2 c = rw (ne-eqb _ _ (c .before .if1 .left), c .if2 .taken)
+returns-2 c = rw (ne-eqb (c .before .before .before .before .before .before .args .chunk-num) 0 (c .before .if1 .left), c .if2 .taken)
 
 slice-read-len : tie.Need-slice-read-len
 slice-read-len c = search needs
 
 returns-3 : tie.Need-returns-3
 unfolding addPiece
-returns-3 c = rw (ne-eqb _ _ (c .before .before .before .if1 .left), c .before .before .if2 .left, le-ltb _ _ (c .if3 .taken))
+returns-3 c = rw (ne-eqb (c .before .before .before .before .before .before .before .before .args .chunk-num) 0 (c .before .before .before .if1 .left), c .before .before .if2 .left, le-ltb _ _ (c .if3 .taken))
 
 slice-read-at : tie.Need-slice-read-at
 slice-read-at c = search needs
@@ -53,7 +53,7 @@ returns-4 c =
     let g = f .before .before in
     let s = g .before .before .before .before .before .before .before .before in
     let past : length (now (s .args .arena)) < slotOf (now (s .args .words)) .«property_bytes» + length (now (s .args .property)) = f .if4 .taken in
-    rw (ne-eqb _ _ (g .before .before .before .if1 .left), g .before .before .if2 .left, lt-ltb _ _ (g .if3 .left), lt-leb _ _ past, c .before .before .close2 .ensures ∙ close-nine _ (s .pre .0))
+    rw (ne-eqb (s .args .chunk-num) 0 (g .before .before .before .if1 .left), g .before .before .if2 .left, lt-ltb _ _ (g .if3 .left), lt-leb _ _ past, c .before .before .close2 .ensures ∙ close-nine _ (s .pre .0))
 
 pack-requires : tie.Need-pack-requires
 pack-requires c κs = search needs
@@ -93,7 +93,7 @@ returns-5 c =
     let a = g .before .before .before .before .before .before .before .before .args in
     let fits : slotOf (now (a .words)) .«property_bytes» + length (now (a .property)) ≤ length (now (a .arena)) = f .if4 .left in
     rw (
-      ne-eqb _ _ (g .before .before .before .if1 .left),
+      ne-eqb (a .chunk-num) 0 (g .before .before .before .if1 .left),
       g .before .before .if2 .left,
       lt-ltb _ _ (g .if3 .left),
       le-leb _ _ fits,
