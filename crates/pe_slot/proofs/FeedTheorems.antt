@@ -2,7 +2,7 @@
 -- Assumes nothing.
 use Prim.Native.Nat.{ℕ, _+_, _<_, _≤_}
 use mathlib.Core.Bool.{Bool, true, false, cond, not, _&&_, _||_}
-use mathlib.Core.List.{List, []}
+use mathlib.Core.List.{List}
 use mathlib.Core.Option.{Option, none, some}
 use mathlib.Core.Path.{_≡_, refl, ap, _∙_}
 use native.Mathlib.Omega.{arith}
@@ -15,7 +15,7 @@ use Rattle.seven_bit.specs.Reply.{refused}
 use Rattle.seven_bit.proofs.PartLaws.{length-splice}
 use Rattle.pe_frame.specs.Chunk.{Chunk}
 use Rattle.pe_slot.specs.declared.layout.TxSlot.{TxSlot}
-use Rattle.pe_slot.specs.Slot.{Verdict, slotAfter, judge}
+use Rattle.pe_slot.specs.Slot.{Verdict, emptySlot, slotAfter, judge}
 use Rattle.pe_slot.specs.Memory.{slotOf, wordsOf, piecesOf, contents, endsAt, isEnd, isSound}
 use Rattle.pe_slot.specs.Feed.{SlotLeft, slotLeft, touched, grown, closedSlot, placed, isShaped, feedSlot}
 use Rattle.pe_slot.proofs.SlotMemory.{ends-grown}
@@ -151,7 +151,7 @@ module _ (t : TxSlot) (index header arena : List ℕ) (c : Chunk) (out-header ou
   -- and nothing where it closes
   pub memory-closed : (v : Verdict) → v .closes ≡ true →
       (let a : SlotLeft = placed t index header arena c v out-header out-body in
-      contents (slotOf (a .words)) (a .index) (a .header) (a .arena) ≡ record { header = none; count = 0; pieces = [] })
+      contents (slotOf (a .words)) (a .index) (a .header) (a .arena) ≡ emptySlot)
   unfolding placed contents piecesOf
   memory-closed v o = rw o
 

@@ -8,23 +8,20 @@ use mathlib.Core.Path.{_≡_, refl}
 use borrow.Author.Tests.{leb-true, ltb-true}
 use lib.Dec.{leb, ltb, eqb}
 use lib.ListN.{length, take}
-use Rattle.seven_bit.specs.Reply.{refused}
-use Rattle.pe_wire.specs.Errors.{peRefused}
-use Rattle.pe_wire.specs.declared.error.PeError.{PeError}
+use Rattle.seven_bit.specs.Reply.{Reply, granted, refused}
 use Rattle.pe_frame.specs.Chunk.{Chunk}
-use Rattle.pe_slot.specs.declared.slot.Asked.{Asked}
 use Rattle.pe_slot.specs.declared.layout.TxSlot.{TxSlot}
 use Rattle.pe_slot.specs.Slot.{Slot, Verdict, storing, taking, isWhole, eqList, afterChunk, passed}
 use Rattle.pe_slot.specs.Memory.{slotOf, wordsOf, contents, endsAt}
-use Rattle.pe_slot.specs.Feed.{SlotLeft, slotLeft, grown, closedSlot, placed}
+use Rattle.pe_slot.specs.Feed.{Told, SlotLeft, slotLeft, grown, closedSlot, placed}
 use Rattle.pe_slot.specs.Steps.{HeaderTaken, takeHeader, CountTaken, takeCount, PieceAdded, addPiece, finishOf}
 use Rattle.pe_slot.proofs.JudgeLaws.{pieceBy, countBy, askedAs, never}
 use Rattle.pe_slot.proofs.FeedLaws.{leaving, newHeader, newIndex, newArena, contents-grown}
 
 -- a no ends the feed, with memory as it is then
-abbrev orNo : Asked → (PeError → SlotLeft) → SlotLeft → SlotLeft
-orNo Asked.Yes ended more = more
-orNo (Asked.No e) ended more = ended e
+abbrev orNo : Reply Told → (Reply Told → SlotLeft) → SlotLeft → SlotLeft
+orNo (granted told) ended more = more
+orNo (refused number value) ended more = ended (refused number value)
 
 module _ (index header arena : List ℕ) (c : Chunk) (held : Bool) (out-header out-body : List ℕ) where
   abbrev pub afterFinish : List ℕ → List ℕ → List ℕ → List ℕ → SlotLeft
@@ -34,7 +31,7 @@ module _ (index header arena : List ℕ) (c : Chunk) (held : Bool) (out-header o
 
   abbrev pub afterPiece : PieceAdded → List ℕ → SlotLeft
   afterPiece a h =
-      orNo (a .asked) (λ e. slotLeft (peRefused e) (a .words) (a .index) h (a .arena) out-header out-body) (afterFinish (a .words) (a .index) h (a .arena))
+      orNo (a .answer) (λ no!. slotLeft no! (a .words) (a .index) h (a .arena) out-header out-body) (afterFinish (a .words) (a .index) h (a .arena))
 
   abbrev pub afterCount : CountTaken → List ℕ → SlotLeft
   afterCount k h =
@@ -43,7 +40,7 @@ module _ (index header arena : List ℕ) (c : Chunk) (held : Bool) (out-header o
 
   abbrev pub afterHeader : HeaderTaken → SlotLeft
   afterHeader k =
-      orNo (k .asked) (λ e. slotLeft (peRefused e) (k .words) index (k .header) arena out-header out-body)
+      orNo (k .answer) (λ no!. slotLeft no! (k .words) index (k .header) arena out-header out-body)
       (afterCount (takeCount (k .words) (c .num-chunks)) (k .header))
 
   -- from the last step to the first; stores: whether the header was stored

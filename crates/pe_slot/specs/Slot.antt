@@ -21,6 +21,10 @@ pub record Slot : Type 0 where
   pub count : ℕ
   pub pieces : List Piece
 
+-- A slot as it is opened.
+abbrev pub emptySlot : Slot
+emptySlot = record { header = none; count = 0; pieces = [] }
+
 -- Is the number held?
 unfoldable pub held : ℕ → List Piece → Bool
 held n [] = false

@@ -29,7 +29,8 @@ ghost use Rattle.pe_slot.specs.Memory.{slotOf, wordsOf, contents};
 ghost use Rattle.pe_slot.specs.Feed.{slotLeft, feedSlot, fedTold, placed, touched, closeWords};
 ghost use Rattle.pe_slot.specs.Records.{holds};
 ghost use Rattle.pe_frame.specs.Chunk.{chunkFrom};
-ghost use Rattle.pe_slot.specs.Steps.{isBounded, Ready, headerTaken, takeHeader, countTaken, takeCount, pieceAdded, addPiece, finished, finishOf};
+ghost use Rattle.pe_slot.specs.Steps.{isBounded, Ready, askedTold, headerTaken, takeHeader, countTaken, takeCount};
+ghost use Rattle.pe_slot.specs.Steps.{pieceAdded, addPiece, finished, finishOf};
 
 // When a chunk comes: the time, and the tick that it gives its slot.
 pub struct Moment {
@@ -53,7 +54,8 @@ fn is_shaped(
     out_header: usize,
     out_body: usize,
 ) -> bool
-    ensures { λ r. ⌜ r ≡ (eqb words slotWords && leb index 2048 && leb header 4096 && leb arena 65536 && leb header «out_header» && leb arena «out_body») ⌝ }
+    ensures { λ r. ⌜ r ≡ (eqb words slotWords && leb index 2048 && leb header 4096 && leb arena 65536
+        && leb header «out_header» && leb arena «out_body») ⌝ }
 {
     if words != SLOT_WORDS {
         return false;
@@ -166,7 +168,7 @@ fn touch(words: &mut [u64], request_id: u8, moment: Moment)
 // Chunk 1: does its header fit, and is it the one that is known? The first is stored.
 fn take_header(words: &mut [u64], header: &mut [u8], chunk_num: u16, chunk_header: &[u8]) -> Asked
     requires { ⌜ (length (now words) ≡ slotWords) × (slotOf (now words) .«header_len» ≤ length (now header)) ⌝ }
-    ensures { λ r. ⌜ headerTaken r (now (words .exit)) (now (header .exit))
+    ensures { λ r. ⌜ headerTaken (askedTold r) (now (words .exit)) (now (header .exit))
         ≡ takeHeader (now (words .entry)) (now (header .entry)) «chunk_num» (now («chunk_header» .entry)) ⌝ }
 {
     if chunk_num != 1 {
@@ -214,7 +216,7 @@ fn add_piece(
 ) -> Asked
     requires { ⌜ (length (now words) ≡ slotWords) × (length (now arena) ≤ 65536)
         × (slotOf (now words) .«property_bytes» ≤ length (now arena)) × (length (now property) ≤ 16383) ⌝ }
-    ensures { λ r. ⌜ pieceAdded r (now (words .exit)) (now (index .exit)) (now (arena .exit))
+    ensures { λ r. ⌜ pieceAdded (askedTold r) (now (words .exit)) (now (index .exit)) (now (arena .exit))
         ≡ addPiece (now (words .entry)) (now (index .entry)) (now (arena .entry)) «chunk_num» (now (property .entry)) held ⌝ }
 {
     if chunk_num == 0 {
@@ -264,10 +266,6 @@ fn finish(
         return Fed::Waiting;
     }
     let len = words[INDEX_LEN];
-    // fewer records than the count can't hold every number
-    if len < count {
-        return Fed::Waiting;
-    }
     let end = words[PROPERTY_BYTES] as usize;
     let Joined::Body(body_len) = join(count, index, len as usize, end, arena, out_body) else {
         return Fed::Waiting;

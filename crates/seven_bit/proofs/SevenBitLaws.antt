@@ -103,10 +103,10 @@ bytes-back k s h t =
 or-low : (a b : ℕ) → a ≤ 127 → b ≤ 127 → bitOr a b ≤ 127
 or-low a b h k = let l : bitOr a b < 128 = or-lt 7 a b (omega arith) (omega arith) in omega arith
 
-or-left : (a b : ℕ) → a ≤ bitOr a b
+pub or-left : (a b : ℕ) → a ≤ bitOr a b
 or-left a b = omega (arith, or-add-and a b, and-le-r a b)
 
-or-right : (a b : ℕ) → b ≤ bitOr a b
+pub or-right : (a b : ℕ) → b ≤ bitOr a b
 or-right a b = omega (arith, or-add-and a b, and-le-l a b)
 
 pub gather : (bits b : ℕ) (bs : List ℕ) → cond (leb bits 127) (isSevenBit (b ∷ bs)) false ≡ cond (leb (bitOr bits b) 127) (isSevenBit bs) false

@@ -1,4 +1,6 @@
+use Prim.Native.Nat.{_+_, _<_, _≤_}
 use mathlib.Core.Path.{_∙_}
+use lib.ListN.{length}
 use borrow.Author.Tests.{eq-eqb, ne-eqb, lt-ltb, le-ltb, le-leb, lt-leb}
 use denote.Ref.{now}
 use Rattle.pe_slot.specs.Memory.{slotOf}
@@ -19,18 +21,18 @@ returns : tie.Need-returns
 unfolding addPiece
 returns c =
     let start = c .before .before .before .before .before .before .before .before .before in
-    rw (eq-eqb _ _ (c .before .before .before .before .if1 .taken), c .before .before .close .ensures ∙ close-nine _ (start .pre .0))
+    rw (eq-eqb (start .args .chunk-num) 0 (c .before .before .before .before .if1 .taken), c .before .before .close .ensures ∙ close-nine _ (start .pre .0))
 
 returns-2 : tie.Need-returns-2
 unfolding addPiece
-returns-2 c = rw (ne-eqb _ _ (c .before .if1 .left), c .if2 .taken)
+returns-2 c = rw (ne-eqb (c .before .before .before .before .before .before .args .chunk-num) 0 (c .before .if1 .left), c .if2 .taken)
 
 slice-read-len : tie.Need-slice-read-len
 slice-read-len c = search needs
 
 returns-3 : tie.Need-returns-3
 unfolding addPiece
-returns-3 c = rw (ne-eqb _ _ (c .before .before .before .if1 .left), c .before .before .if2 .left, le-ltb _ _ (c .if3 .taken))
+returns-3 c = rw (ne-eqb (c .before .before .before .before .before .before .before .before .args .chunk-num) 0 (c .before .before .before .if1 .left), c .before .before .if2 .left, le-ltb _ _ (c .if3 .taken))
 
 slice-read-at : tie.Need-slice-read-at
 slice-read-at c = search needs
@@ -47,8 +49,11 @@ same-length-2 c = search needs
 returns-4 : tie.Need-returns-4
 unfolding addPiece
 returns-4 c =
-    let u5 = c .before .before .before .before .before in
-    rw (ne-eqb _ _ (u5 .before .before .before .before .if1 .left), u5 .before .before .before .if2 .left, lt-ltb _ _ (c .before .before .before .before .before .before .if3 .left), lt-leb _ _ (c .before .before .before .before .if4 .taken), c .before .before .close2 .ensures ∙ close-nine _ (u5 .before .before .before .before .before .before .before .before .before .pre .0))
+    let f = c .before .before .before .before in
+    let g = f .before .before in
+    let s = g .before .before .before .before .before .before .before .before in
+    let past : length (now (s .args .arena)) < slotOf (now (s .args .words)) .«property_bytes» + length (now (s .args .property)) = f .if4 .taken in
+    rw (ne-eqb (s .args .chunk-num) 0 (g .before .before .before .if1 .left), g .before .before .if2 .left, lt-ltb _ _ (g .if3 .left), lt-leb _ _ past, c .before .before .close2 .ensures ∙ close-nine _ (s .pre .0))
 
 pack-requires : tie.Need-pack-requires
 pack-requires c κs = search needs
@@ -83,17 +88,17 @@ same-length-5 c = search needs
 returns-5 : tie.Need-returns-5
 unfolding addPiece
 returns-5 c =
-    let u5 = c .before .before .before .before .before in
-    let u10 = u5 .before .before .before .before .before in
-    let u15 = u10 .before .before .before .before .before in
-    let a = u15 .args in
+    let f = c .before .before .before .before .before in
+    let g = f .before .before in
+    let a = g .before .before .before .before .before .before .before .before .args in
+    let fits : slotOf (now (a .words)) .«property_bytes» + length (now (a .property)) ≤ length (now (a .arena)) = f .if4 .left in
     rw (
-      ne-eqb _ _ (u10 .if1 .left),
-      u5 .before .before .before .before .if2 .left,
-      lt-ltb _ _ (u5 .before .before .if3 .left),
-      le-leb _ _ (c .before .before .before .before .before .if4 .left),
+      ne-eqb (a .chunk-num) 0 (g .before .before .before .if1 .left),
+      g .before .before .if2 .left,
+      lt-ltb _ _ (g .if3 .left),
+      le-leb _ _ fits,
       c .before .before .before .before .pack .ensures,
-      c .before .before .copy-in .ensures ∙ fit-splice (now (a .arena)) (slotOf (now (a .words)) .«property_bytes») (now (a .property)) (c .before .before .before .before .before .if4 .left),
+      c .before .before .copy-in .ensures ∙ fit-splice (now (a .arena)) (slotOf (now (a .words)) .«property_bytes») (now (a .property)) fits,
     )
 
 pub add-piece-spec : {M : Type 1} → statement M

@@ -1,24 +1,38 @@
 use Rattle.pe_slot.proofs.slot.is_shaped.Statement.{statement}
 use Rattle.pe_slot.proofs.slot.is_shaped.Tie as tie
+use native.Mathlib.Omega.{arith}
 use borrow.Author.Tests.{le-leb, lt-leb, eq-eqb, ne-eqb}
+use Rattle.pe_slot.specs.Layout.{slotWords}
 
 returns : tie.Need-returns
-returns c = rw (ne-eqb _ _ (c .if1 .taken))
+returns c =
+    let a = c .before .args in
+    rw (ne-eqb (a .words) slotWords (omega arith))
 
 returns-2 : tie.Need-returns-2
-returns-2 c = rw (eq-eqb _ _ (c .before .if1 .left), lt-leb _ _ (c .if2 .taken))
+returns-2 c =
+    let a = c .before .before .args in
+    rw (eq-eqb (a .words) slotWords (omega arith), lt-leb (a .index) 2048 (omega arith))
 
 returns-3 : tie.Need-returns-3
-returns-3 c = rw (eq-eqb _ _ (c .before .before .if1 .left), le-leb _ _ (c .before .if2 .left), lt-leb _ _ (c .if3 .taken))
+returns-3 c =
+    let a = c .before .before .before .args in
+    rw (eq-eqb (a .words) slotWords (omega arith), le-leb (a .index) 2048 (omega arith), lt-leb (a .header) 4096 (omega arith))
 
 returns-4 : tie.Need-returns-4
-returns-4 c = rw (eq-eqb _ _ (c .before .before .before .if1 .left), le-leb _ _ (c .before .before .if2 .left), le-leb _ _ (c .before .if3 .left), lt-leb _ _ (c .if4 .taken))
+returns-4 c =
+    let a = c .before .before .before .before .args in
+    rw (eq-eqb (a .words) slotWords (omega arith), le-leb (a .index) 2048 (omega arith), le-leb (a .header) 4096 (omega arith), lt-leb (a .arena) 65536 (omega arith))
 
 returns-5 : tie.Need-returns-5
-returns-5 c = rw (eq-eqb _ _ (c .before .before .before .before .if1 .left), le-leb _ _ (c .before .before .before .if2 .left), le-leb _ _ (c .before .before .if3 .left), le-leb _ _ (c .before .if4 .left), lt-leb _ _ (c .if5 .taken))
+returns-5 c =
+    let a = c .before .before .before .before .before .args in
+    rw (eq-eqb (a .words) slotWords (omega arith), le-leb (a .index) 2048 (omega arith), le-leb (a .header) 4096 (omega arith), le-leb (a .arena) 65536 (omega arith), lt-leb (a .header) (a .out-header) (omega arith))
 
 returns-6 : tie.Need-returns-6
-returns-6 c = rw (eq-eqb _ _ (c .before .before .before .before .if1 .left), le-leb _ _ (c .before .before .before .if2 .left), le-leb _ _ (c .before .before .if3 .left), le-leb _ _ (c .before .if4 .left), le-leb _ _ (c .if5 .left))
+returns-6 c =
+    let a = c .before .before .before .before .before .args in
+    rw (eq-eqb (a .words) slotWords (omega arith), le-leb (a .index) 2048 (omega arith), le-leb (a .header) 4096 (omega arith), le-leb (a .arena) 65536 (omega arith), le-leb (a .header) (a .out-header) (omega arith))
 
 pub is-shaped-spec : {M : Type 1} → statement M
 is-shaped-spec = tie.close (tie.spec returns returns-2 returns-3 returns-4 returns-5 returns-6)
