@@ -3,7 +3,7 @@
 use Prim.Native.Nat.{ℕ, _+_, _*_, _≤_}
 use mathlib.Core.Bool.{Bool, true, false, cond, _&&_}
 use mathlib.Core.List.{List, [], _++_, map}
-use mathlib.Core.Path.{_≡_, refl, subst}
+use mathlib.Core.Path.{_≡_, refl, ap, subst}
 use native.Mathlib.Omega.{arith}
 use borrow.Author.Tests.{le-leb, leb-true}
 use lib.ListN.{length, drop}
@@ -128,11 +128,15 @@ module _ (shape : Shape) (now-ms : ℕ) (out-header out-body : List ℕ) (a : Ar
       arriving-small (m .0 .header .source) (drop 13 message) (b .0) (m .2)
 
 -- ---- memory long enough for full size
+full-range : (n : ℕ) → n ≤ 16 → inRange (fullSize n) ≡ true
+unfolding inRange
+full-range n few = ap (λ (b : Bool). b && true && true && true) (le-leb n 16 few)
+
 pub long-enough : (n : ℕ) (t : Table) → n ≤ 16 → LongEnough n t → LongFor (fullSize n) t
-unfolding hasRooms hasNumbers inRange
+unfolding hasRooms hasNumbers
 long-enough n t few long =
     let w : 1 + 38 * n ≤ length (t .numbers) = long .numbers in
     let i : 4 * n * 2048 ≤ length (t .index) = omega (arith, long .index) in
     let h : 4 * n * 4096 ≤ length (t .headers) = omega (arith, long .headers) in
     let a : 4 * n * 65536 ≤ length (t .arenas) = omega (arith, long .arenas) in
-    rw (le-leb _ _ few, le-leb _ _ w, le-leb _ _ i, le-leb _ _ h, le-leb _ _ a)
+    rw (full-range n few, le-leb _ _ w, le-leb _ _ i, le-leb _ _ h, le-leb _ _ a)

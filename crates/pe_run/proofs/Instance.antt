@@ -36,8 +36,8 @@ body-long : length lentBody ≡ 65536
 unfolding lentBody
 body-long = length-replicate {A = ℕ} 65536 0
 
-long-enough : hasOutputs (fullSize 2) lentHeader lentBody ≡ true
-long-enough = rw (header-long, body-long) refl
+outputs-long : hasOutputs (fullSize 2) lentHeader lentBody ≡ true
+outputs-long = rw (header-long, body-long) refl
 
 -- ---- what arrives
 abbrev pub bearing : ℕ → Chunk → ℕ → Arrival
@@ -46,7 +46,7 @@ bearing peer c now-ms = arrival peer (chunkBytes c) c now-ms lentHeader lentBody
 fed-arrives : (peer : ℕ) (c : Chunk) (now-ms : ℕ) → isMuid peer ≡ true → InRange c
     → fedArrival (fullSize 2) peer (chunkBytes c) now-ms lentHeader lentBody ≡ granted (bearing peer c now-ms)
 unfolding fedArrival
-fed-arrives peer c now-ms m r = rw (long-enough, m, bytes-read c r, bytes-chunk c) refl
+fed-arrives peer c now-ms m r = rw (outputs-long, m, bytes-read c r, bytes-chunk c) refl
 
 -- ---- the list
 cut-count : cutCount 5 header body 128 ≡ granted 2
@@ -100,7 +100,7 @@ message-arrives =
     let w : writeWhole 0x34 9 7 one 4096 ≡ granted message = ask-yes one _ one-in-range in
     let r = whole-then-read 0x34 9 7 one 4096 message w in
     let b : drop 13 message ≡ chunkBytes one = sym (read-bytes-are (drop 13 message) (fields one) (r .1)) ∙ ap chunkBytes (r .2) in
-    rw (long-enough, r .0, r .1, r .2, b) refl
+    rw (outputs-long, r .0, r .1, r .2, b) refl
 
 -- ---- the run
 arrives-before-8 : fedArrival (fullSize 2) 8 (chunkBytes (other 5 1)) 0 lentHeader lentBody ≡ granted (bearing 8 (other 5 1) 0)
@@ -120,7 +120,7 @@ arrives-9 = fed-arrives 9 (other 6 1) 200 refl (other-in-range 6 1 (omega arith)
 
 pub torn-refused : fedArrival (fullSize 2) 9 torn 300 lentHeader lentBody ≡ refused 2 0
 unfolding fedArrival readFields readU14 isSevenBit numberOf
-torn-refused = rw long-enough refl
+torn-refused = rw outputs-long refl
 
 -- ---- what is open when the first of them comes
 abbrev pub entry : ℕ → ℕ → ℕ → Option (List ℕ) → ℕ → List Piece → Entry

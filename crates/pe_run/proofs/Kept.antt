@@ -129,8 +129,8 @@ module _ (shape : Shape) (t : Table) (b : Model) (k : Kept shape t b) where
   drop-stepped peer (inr e) = rw (e, drop-refused shape t peer (k .long) e) (record { long = k .long; rel = k .rel })
 
   module _ (now-ms : ℕ) (out-peers out-ids : List ℕ) where
-    poll-stepped : ((hasPlaces (shape .«max_peers») out-peers && hasPlaces (shape .«max_peers») out-ids) ≡ true) ⊎
-        ((hasPlaces (shape .«max_peers») out-peers && hasPlaces (shape .«max_peers») out-ids) ≡ false)
+    poll-stepped : ((hasPlaces (shape .«max_peers») out-peers && hasPlaces (shape .«max_peers») out-ids) ≡ true)
+        ⊎ ((hasPlaces (shape .«max_peers») out-peers && hasPlaces (shape .«max_peers») out-ids) ≡ false)
         → Stepped shape (step shape t (poll now-ms out-peers out-ids)) (acted shape b (actOf shape (poll now-ms out-peers out-ids)))
     poll-stepped (inl e) =
         let v = poll-value shape t now-ms out-peers out-ids (k .long) e in

@@ -140,8 +140,8 @@ module _ {recs : List Rec} {test : Rec → Bool} (s : Split test recs) {taken : 
       subst (λ (l : Model). Perm l (cellOpen muid cell ++ rest muid)) (sym flat)
       (slide muid (cell .request-id) (cell .state) (recsOpen (s .before) ++ cellsOpen muid (u .before)) (cellsOpen muid (u .after) ++ recsOpen (s .after)))
     where
-      flat : recsOpen (putCell bound muid cell) ≡ recsOpen (s .before) ++ cellsOpen muid (u .before) ++
-          (cellOpen muid cell ++ (cellsOpen muid (u .after) ++ recsOpen (s .after)))
+      flat : recsOpen (putCell bound muid cell)
+          ≡ recsOpen (s .before) ++ cellsOpen muid (u .before) ++ (cellOpen muid cell ++ (cellsOpen muid (u .after) ++ recsOpen (s .after)))
       flat =
           recs-append (s .before) (record { bound = bound; muid = muid; cells = u .before ++ cell ∷ u .after } ∷ s .after)
           ∙ rw (cells-append muid (u .before) (cell ∷ u .after)) (simp append-assoc)

@@ -115,8 +115,8 @@ module _ {n : ℕ} {header body : List ℕ} (held-now : List Chunk) (c : Chunk) 
       agrees (inr e) = rw e
 
   -- the slot then holds it too
-  after-header : cond (eqb (c .chunk-num) 1 && noneKnown (headerWith header held-now)) (some (c .header)) (headerWith header held-now) ≡ headerWith header
-      (held-now ++ (c ∷ []))
+  after-header : cond (eqb (c .chunk-num) 1 && noneKnown (headerWith header held-now)) (some (c .header)) (headerWith header held-now)
+      ≡ headerWith header (held-now ++ (c ∷ []))
   unfolding noneKnown
   after-header = go (both (eqb (c .chunk-num) 1))
     where
