@@ -34,14 +34,16 @@ pub extern "C" fn codec_write_u14_le7(v: u16, out: &mut [u8]) -> Answer
 
 #[no_mangle]
 pub extern "C" fn codec_mcoded7_decode(input: &[u8], out: &mut [u8]) -> Answer
-    ensures { λ r. ⌜ written r (now (out .exit)) ≡ writtenOf (writing (readMcoded7 (now (input .entry)) (length (now (out .entry)))) (now (out .entry))) ⌝ }
+    ensures { λ r. ⌜ written r (now (out .exit))
+        ≡ writtenOf (writing (readMcoded7 (now (input .entry)) (length (now (out .entry)))) (now (out .entry))) ⌝ }
 {
     pe_encoded(pe_mcoded7::decode(input, out))
 }
 
 #[no_mangle]
 pub extern "C" fn codec_mcoded7_encode(input: &[u8], out: &mut [u8]) -> Answer
-    ensures { λ r. ⌜ written r (now (out .exit)) ≡ writtenOf (writing (writeMcoded7 (now (input .entry)) (length (now (out .entry)))) (now (out .entry))) ⌝ }
+    ensures { λ r. ⌜ written r (now (out .exit))
+        ≡ writtenOf (writing (writeMcoded7 (now (input .entry)) (length (now (out .entry)))) (now (out .entry))) ⌝ }
 {
     pe_encoded(pe_mcoded7::encode(input, out))
 }

@@ -12,29 +12,7 @@ use lib.Dec.{eqb}
 use lib.ListN.{length, getD, drop, drop-of-length-le, List·getD-map}
 use lib.Seq.{drop-cons}
 use Rattle.midici_core.specs.declared.spec.Kind.{Kind}
-use Rattle.midici_core.specs.Kinds.{KindRow, kindOf, carriesChunk, isKind, replyKind, rowOf}
-
-abbrev row : ℕ → Bool → ℕ → Kind
-row kind chunked reply = record { «sub_id2» = kind; chunked = chunked; reply = reply }
-
--- the table as the source has it
-unfoldable pub table : List Kind
-table =
-    row 0x30 false 0x31
-    ∷ row 0x31 false 0
-    ∷ row 0x34 true 0x35
-    ∷ row 0x35 true 0
-    ∷ row 0x36 true 0x37
-    ∷ row 0x37 true 0
-    ∷ row 0x38 true 0x39
-    ∷ row 0x39 true 0
-    ∷ row 0x3F true 0
-    ∷ []
-
--- the first row of a kind
-unfoldable pub found : ℕ → List Kind → Option KindRow
-found kind [] = none
-found kind (k ∷ ks) = cond (eqb (k .«sub_id2») kind) (some (rowOf k)) (found kind ks)
+use Rattle.midici_core.specs.Kinds.{KindRow, kindOf, carriesChunk, isKind, replyKind, rowOf, table, found}
 
 module _ (kind : ℕ) (ks : List Kind) (i : ℕ) (d : Kind) (h : i < length ks) where
   pub found-here : getD ks i d .«sub_id2» ≡ kind → found kind (drop i ks) ≡ some (rowOf (getD ks i d))

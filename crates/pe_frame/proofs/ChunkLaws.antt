@@ -17,6 +17,7 @@ use Rattle.seven_bit.proofs.ReplyLaws.{asked}
 use Rattle.pe_wire.specs.Wire.{readU14}
 use Rattle.pe_frame.specs.Chunk.{Chunk, Fields, readFields}
 use Rattle.pe_frame.specs.Write.{askChunk, chunkLen, chunkBytes, writeChunk}
+pub use Rattle.pe_frame.specs.Write.{InRange}
 use Rattle.pe_frame.proofs.FieldLaws.{three-fields}
 
 -- the questions behind the fields
@@ -48,17 +49,7 @@ pub past-fields : (s : List ℕ) (nh count number nd : ℕ) → isSevenBit (part
     count ≡ numberOf (part (3 + nh) 2 s) → number ≡ numberOf (part (5 + nh) 2 s) → nd ≡ numberOf (part (7 + nh) 2 s) → readCounts s nh ≡ readEnd s nh count number nd
 past-fields s nh count number nd t e₃ e₅ e₇ = rw (t, e₃, e₅, e₇)
 
--- a chunk that may be written
-pub record InRange (c : Chunk) : Type 0 where
-  pub id : c .request-id ≤ 127
-  pub header-len : length (c .header) ≤ 16383
-  pub property-len : length (c .property) ≤ 16383
-  pub count : c .num-chunks ≤ 16383
-  pub number : c .chunk-num ≤ 16383
-  pub header-bytes : isSevenBit (c .header) ≡ true
-  pub first : (eqb (c .chunk-num) 1 || eqb (length (c .header)) 0) ≡ true
-
--- has a yes to each question
+-- a chunk in range has a yes to each question
 pub ask-yes : {A : Type 0} (c : Chunk) (next : Reply A) → InRange c → askChunk c next ≡ next
 unfolding askChunk
 ask-yes c next r =

@@ -1,4 +1,6 @@
 pub mod FieldLaws
 pub mod ChunkLaws
 pub mod MessageLaws
+pub mod ChunkRefLaws
 pub mod RoundTrip
+pub mod Told

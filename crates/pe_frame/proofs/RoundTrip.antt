@@ -23,19 +23,9 @@ use Rattle.midici_core.proofs.RoundTrip.{header-reads-back}
 use Rattle.pe_wire.specs.Wire.{readU14}
 use Rattle.pe_wire.proofs.RoundTrip.{read-bytes, read-then-bytes, read-small}
 use Rattle.pe_frame.specs.Chunk.{Chunk, Fields, readFields, chunkOf}
+pub use Rattle.pe_frame.specs.Chunk.{fields}
 use Rattle.pe_frame.specs.Write.{chunkBytes, chunkLen, writeChunk, headerFor, writeWhole}
 use Rattle.pe_frame.proofs.ChunkLaws.{InRange, ask-told, write-granted, chunk-length}
-
--- the fields that a chunk has where it stands
-abbrev pub fields : Chunk → Fields
-fields c = record {
-  request-id = c .request-id;
-  header-len = length (c .header);
-  num-chunks = c .num-chunks;
-  chunk-num = c .chunk-num;
-  property-at = 9 + length (c .header);
-  property-len = length (c .property);
-}
 
 -- a place further on
 further : (k m n : ℕ) (l : List ℕ) → k ≡ n + m → drop k l ≡ drop m (drop n l)

@@ -70,6 +70,17 @@ chunkOf s f = record {
   property = part (f .property-at) (f .property-len) s;
 }
 
+-- The fields that a chunk has where its bytes stand.
+abbrev pub fields : Chunk → Fields
+fields c = record {
+  request-id = c .request-id;
+  header-len = length (c .header);
+  num-chunks = c .num-chunks;
+  chunk-num = c .chunk-num;
+  property-at = 9 + length (c .header);
+  property-len = length (c .property);
+}
+
 abbrev pub fieldsOf : ChunkFields → Fields
 fieldsOf f = record {
   request-id = f .«request_id»;

@@ -1,14 +1,17 @@
 -- A chunk written, alone and behind a CI header (document 01, **Write a frame**, and 'Added').
 -- Assumes nothing.
-use Prim.Native.Nat.{ℕ, _+_}
-use mathlib.Core.Bool.{_||_}
+use Prim.Native.Nat.{ℕ, _+_, _≤_}
+use mathlib.Core.Bool.{true, _||_}
 use mathlib.Core.List.{List, [], _∷_, _++_}
+use mathlib.Core.Path.{_≡_}
 use lib.Dec.{leb, eqb}
 use lib.ListN.{length}
 use Rattle.seven_bit.specs.Reply.{Reply, granted, _else_then_, _else_with_then_}
 use Rattle.seven_bit.specs.SevenBit.{isSevenBit, bytesOf}
 use Rattle.midici_core.specs.Header.{Header, headerBytes, within28}
 use Rattle.midici_core.specs.Kinds.{carriesChunk}
+use Rattle.pe_wire.specs.Errors.{peRefused}
+use Rattle.pe_frame.specs.declared.frame.ChunkLen.{ChunkLen}
 use Rattle.pe_frame.specs.Chunk.{Chunk}
 
 -- The chunk's bytes, and how many there are.
@@ -36,6 +39,20 @@ askChunk c next =
     isSevenBit (c .header) else 1 then
     (eqb (c .chunk-num) 1 || eqb (length (c .header)) 0) else 8 then
     next
+
+abbrev pub chunkLenTold : ChunkLen → Reply ℕ
+chunkLenTold (ChunkLen.Bytes n) = granted n
+chunkLenTold (ChunkLen.Refused e) = peRefused e
+
+-- A chunk that has a yes to each of them.
+pub record InRange (c : Chunk) : Type 0 where
+  pub id : c .request-id ≤ 127
+  pub header-len : length (c .header) ≤ 16383
+  pub property-len : length (c .property) ≤ 16383
+  pub count : c .num-chunks ≤ 16383
+  pub number : c .chunk-num ≤ 16383
+  pub header-bytes : isSevenBit (c .header) ≡ true
+  pub first : (eqb (c .chunk-num) 1 || eqb (length (c .header)) 0) ≡ true
 
 -- and then "Buffer? 3."
 unfoldable pub writeChunk : Chunk → ℕ → Reply (List ℕ)

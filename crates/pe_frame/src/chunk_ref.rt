@@ -1,16 +1,17 @@
 // PeChunkRef: a chunk that refers to the bytes it was read from.
+use crate::frame::ChunkFields;
 use crate::frame::ChunkRead;
 use crate::frame::decode_fields;
 use crate::frame::encode;
+use pe_wire::error::PeError;
 use pe_wire::wire::Encoded;
 ghost use mathlib.Core.Path.{_≡_};
-ghost use Prim.Native.Nat.{_+_, _≤_};
 ghost use lib.ListN.{length};
-ghost use Rattle.seven_bit.specs.Parts.{part as partOf};
+ghost use Rattle.seven_bit.specs.Parts.{part};
 ghost use Rattle.seven_bit.specs.Reply.{andThen, outcome, writing};
 ghost use Rattle.pe_wire.specs.Wire.{encodedTold};
-ghost use Rattle.pe_frame.specs.Chunk.{readFields, chunkOf, chunkFrom};
-ghost use Rattle.pe_frame.specs.ChunkRef.{chunkIn};
+ghost use Rattle.pe_frame.specs.Chunk.{readFields, chunkOf, chunkFrom, fieldsOf};
+ghost use Rattle.pe_frame.specs.ChunkRef.{chunkIn, refTold, refWith, readRef};
 ghost use Rattle.pe_frame.specs.Write.{writeChunk};
 
 pub struct PeChunkRef<'a> {
@@ -22,44 +23,85 @@ pub struct PeChunkRef<'a> {
     pub property: &'a [u8],
 }
 
-// The len bytes of s from at on.
-fn part(s: &[u8], at: usize, len: usize) -> &[u8]
-    requires { ⌜ at + len ≤ length (now s) ⌝ }
-    ensures { λ r. ⌜ now r ≡ partOf at len (now (s .entry)) ⌝ }
-{
-    let end = at + len;
-    &s[at..end]
+pub enum Decoded {
+    Read,
+    Refused(PeError),
 }
 
-// The struct is made, of a chunk's bytes and the numbers that were read from them.
-pub(crate) fn chunk_of<'a>(
-    data: &'a [u8],
-    request_id: u8,
-    header_len: usize,
-    num_chunks: u16,
-    chunk_num: u16,
-    property_at: usize,
-    property_len: usize,
-) -> PeChunkRef<'a>
-    requires { ⌜ (3 + «header_len» ≤ length (now «data»)) × («property_at» + «property_len» ≤ length (now «data»)) ⌝ }
-    ensures { λ r. ⌜ chunkIn r ≡ chunkOf (now («data» .entry))
-        (record {
-          request-id = «request_id»;
-          header-len = «header_len»;
-          num-chunks = «num_chunks»;
-          chunk-num = «chunk_num»;
-          property-at = «property_at»;
-          property-len = «property_len»;
-        }) ⌝ }
+// An enum can't hold a reference: the answer stands beside the chunk, which is empty where it is a refusal.
+pub struct ChunkRefRead<'a> {
+    pub answer: Decoded,
+    pub chunk: PeChunkRef<'a>,
+}
+
+// The same over numbers.
+struct FieldsFound {
+    answer: Decoded,
+    fields: ChunkFields,
+}
+
+const NO_FIELDS: ChunkFields = ChunkFields {
+    request_id: 0,
+    header_len: 0,
+    num_chunks: 0,
+    chunk_num: 0,
+    property_at: 0,
+    property_len: 0,
+};
+
+fn find_fields(data: &[u8]) -> FieldsFound
+    ensures { λ r. ⌜ refWith (r .answer) (chunkOf (now («data» .entry)) (fieldsOf (r .fields))) ≡ readRef (now («data» .entry)) ⌝ }
 {
-    let header = part(data, 3, header_len);
-    let property = part(data, property_at, property_len);
+    match decode_fields(data) {
+        ChunkRead::Value(fields) => FieldsFound {
+            answer: Decoded::Read,
+            fields,
+        },
+        ChunkRead::Refused(e) => FieldsFound {
+            answer: Decoded::Refused(e),
+            fields: NO_FIELDS,
+        },
+    }
+}
+
+// The len bytes of s from at on, or as many of them as there are.
+fn bytes_at(s: &[u8], at: usize, len: usize) -> &[u8]
+    ensures { λ r. ⌜ now r ≡ part at len (now (s .entry)) ⌝ }
+{
+    if s.len() < at {
+        return &s[..0];
+    }
+    let rest = &s[at..];
+    if rest.len() < len {
+        return rest;
+    }
+    &rest[..len]
+}
+
+// The struct is made, of a chunk's bytes and the fields that were read from them.
+fn chunk_of<'a>(data: &'a [u8], fields: ChunkFields) -> PeChunkRef<'a>
+    ensures { λ r. ⌜ chunkIn r ≡ chunkOf (now («data» .entry)) (fieldsOf fields) ⌝ }
+{
+    let header = bytes_at(data, 3, fields.header_len);
+    let property = bytes_at(data, fields.property_at, fields.property_len);
     PeChunkRef {
-        request_id,
+        request_id: fields.request_id,
         header,
-        num_chunks,
-        chunk_num,
+        num_chunks: fields.num_chunks,
+        chunk_num: fields.chunk_num,
         property,
+    }
+}
+
+impl<'a> PeChunkRef<'a> {
+    pub fn decode(data: &'a [u8]) -> ChunkRefRead<'a>
+        ensures { λ r. ⌜ refTold r ≡ readRef (now («data» .entry)) ⌝ }
+    {
+        let found = find_fields(data);
+        ChunkRefRead {
+            answer: found.answer,
+            chunk: chunk_of(data, found.fields),
+        }
     }
 }
 
@@ -80,7 +122,7 @@ fn encode_fields<'a, 'b>(
 }
 
 // The struct is taken apart, and its chunk written.
-pub(crate) fn encode_ref<'a, 'b>(chunk: PeChunkRef<'a>, out: &'b mut [u8]) -> Encoded
+pub fn encode_ref<'a, 'b>(chunk: PeChunkRef<'a>, out: &'b mut [u8]) -> Encoded
     ensures { λ r. ⌜ outcome (encodedTold r) (now (out .exit))
         ≡ writing (writeChunk (chunkIn (chunk .entry)) (length (now (out .entry)))) (now (out .entry)) ⌝ }
 {
@@ -94,60 +136,15 @@ pub(crate) fn encode_ref<'a, 'b>(chunk: PeChunkRef<'a>, out: &'b mut [u8]) -> En
     )
 }
 
-// The struct is made and taken apart: with plain parameters, so that no caller needs to know it.
-fn rewrite_at(
-    data: &[u8],
-    request_id: u8,
-    header_len: usize,
-    num_chunks: u16,
-    chunk_num: u16,
-    property_at: usize,
-    property_len: usize,
-    out: &mut [u8],
-) -> Encoded
-    requires { ⌜ (3 + «header_len» ≤ length (now «data»)) × («property_at» + «property_len» ≤ length (now «data»)) ⌝ }
-    ensures { λ r. ⌜ outcome (encodedTold r) (now (out .exit))
-        ≡ writing (writeChunk (chunkOf (now («data» .entry))
-        (record {
-          request-id = «request_id»;
-          header-len = «header_len»;
-          num-chunks = «num_chunks»;
-          chunk-num = «chunk_num»;
-          property-at = «property_at»;
-          property-len = «property_len»;
-        })) (length (now (out .entry)))) (now (out .entry)) ⌝ }
-{
-    encode_ref(
-        chunk_of(
-            data,
-            request_id,
-            header_len,
-            num_chunks,
-            chunk_num,
-            property_at,
-            property_len,
-        ),
-        out,
-    )
-}
-
-// Reads a chunk and writes it again.
+// Reads a chunk and writes it again: with plain parameters, so that no caller needs to know the struct.
 pub fn rewrite(data: &[u8], out: &mut [u8]) -> Encoded
     ensures { λ r. ⌜ outcome (encodedTold r) (now (out .exit))
         ≡ writing (andThen (readFields (now («data» .entry)))
         (λ f. writeChunk (chunkOf (now («data» .entry)) f) (length (now (out .entry))))) (now (out .entry)) ⌝ }
 {
-    match decode_fields(data) {
-        ChunkRead::Refused(e) => Encoded::Refused(e),
-        ChunkRead::Value(f) => rewrite_at(
-            data,
-            f.request_id,
-            f.header_len,
-            f.num_chunks,
-            f.chunk_num,
-            f.property_at,
-            f.property_len,
-            out,
-        ),
+    let read = PeChunkRef::decode(data);
+    match read.answer {
+        Decoded::Read => encode_ref(read.chunk, out),
+        Decoded::Refused(e) => Encoded::Refused(e),
     }
 }

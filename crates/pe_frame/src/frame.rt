@@ -12,7 +12,7 @@ ghost use Rattle.seven_bit.specs.Reply.{granted, outcome, writing};
 ghost use Rattle.seven_bit.specs.SevenBit.{isSevenBit, numberOf, bytesOf};
 ghost use Rattle.pe_wire.specs.Wire.{readU14, encodedTold};
 ghost use Rattle.pe_frame.specs.Chunk.{Chunk, readFields, chunkTold, chunkFrom};
-ghost use Rattle.pe_frame.specs.Write.{askChunk, chunkLen, chunkBytes, writeChunk};
+ghost use Rattle.pe_frame.specs.Write.{askChunk, chunkLenTold, chunkBytes, writeChunk};
 
 // The bytes of a chunk besides its header and property.
 pub const PE_FRAMING_LEN: usize = 9;
@@ -116,42 +116,48 @@ pub fn decode_fields(data: &[u8]) -> ChunkRead
     decode_counts(data, nh)
 }
 
-// The questions before a chunk is written, except for the room: its length, or the refusal.
+// How long a chunk is, or why it can't be written.
+pub(crate) enum ChunkLen {
+    Bytes(usize),
+    Refused(PeError),
+}
+
+// The questions before a chunk is written, except for the room.
 pub(crate) fn questions(
     request_id: u8,
     header: &[u8],
     num_chunks: u16,
     chunk_num: u16,
     property: &[u8],
-) -> Encoded
-    ensures { λ r. ⌜ encodedTold r ≡ askChunk
+) -> ChunkLen
+    ensures { λ r. ⌜ chunkLenTold r ≡ askChunk
         (chunkFrom «request_id» (now (header .entry)) «num_chunks» «chunk_num» (now (property .entry)))
         (granted (9 + length (now (header .entry)) + length (now (property .entry)))) ⌝ }
 {
     if request_id > REQUEST_ID_MAX {
-        return Encoded::Refused(PeError::BadField);
+        return ChunkLen::Refused(PeError::BadField);
     }
     if header.len() > U14_MAX as usize {
-        return Encoded::Refused(PeError::BadField);
+        return ChunkLen::Refused(PeError::BadField);
     }
     if property.len() > U14_MAX as usize {
-        return Encoded::Refused(PeError::BadField);
+        return ChunkLen::Refused(PeError::BadField);
     }
     if num_chunks > U14_MAX {
-        return Encoded::Refused(PeError::BadField);
+        return ChunkLen::Refused(PeError::BadField);
     }
     if chunk_num > U14_MAX {
-        return Encoded::Refused(PeError::BadField);
+        return ChunkLen::Refused(PeError::BadField);
     }
     if !seven_bit::all_seven_bit(header) {
-        return Encoded::Refused(PeError::BadField);
+        return ChunkLen::Refused(PeError::BadField);
     }
     if chunk_num != 1 {
         if header.len() != 0 {
-            return Encoded::Refused(PeError::InconsistentChunking);
+            return ChunkLen::Refused(PeError::InconsistentChunking);
         }
     }
-    Encoded::Wrote(PE_FRAMING_LEN + header.len() + property.len())
+    ChunkLen::Bytes(PE_FRAMING_LEN + header.len() + property.len())
 }
 
 // A field of 14 bits, at a place that has room for it.
@@ -201,9 +207,9 @@ pub fn encode(
         ≡ writing (writeChunk (chunkFrom «request_id» (now (header .entry)) «num_chunks» «chunk_num» (now (property .entry)))
         (length (now (out .entry)))) (now (out .entry)) ⌝ }
 {
-    let answer = questions(request_id, header, num_chunks, chunk_num, property);
-    let Encoded::Wrote(need) = answer else {
-        return answer;
+    let need = match questions(request_id, header, num_chunks, chunk_num, property) {
+        ChunkLen::Bytes(n) => n,
+        ChunkLen::Refused(e) => return Encoded::Refused(e),
     };
     if out.len() < need {
         return Encoded::Refused(PeError::BufferTooSmall);

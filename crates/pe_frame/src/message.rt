@@ -1,4 +1,5 @@
 // A whole message: the CI header (device 7F, version 2) and a chunk behind it.
+use crate::frame::ChunkLen;
 use crate::frame::fill;
 use crate::frame::questions;
 use midici_core::error::CiError;
@@ -16,33 +17,16 @@ ghost use Prim.Native.Nat.{_≤_};
 ghost use lib.ListN.{length};
 ghost use Rattle.seven_bit.specs.Parts.{put};
 ghost use Rattle.seven_bit.specs.Reply.{outcome, writing};
-ghost use Rattle.midici_core.specs.Header.{headerBytes, within28};
+ghost use Rattle.midici_core.specs.Header.{headerBytes, headerOf, within28};
 ghost use Rattle.pe_wire.specs.Wire.{encodedTold};
 ghost use Rattle.pe_frame.specs.Chunk.{chunkFrom};
-ghost use Rattle.pe_frame.specs.Write.{headerFor, writeWhole};
-
-// Are both consoles within 28 bits?
-fn muids_fit(sub_id2: u8, source: Muid, dest: Muid) -> bool
-    ensures { λ r. ⌜ r ≡ within28 (headerFor «sub_id2» (source .0) (dest .0)) ⌝ }
-{
-    if source.0 > Muid::BROADCAST_VALUE {
-        return false;
-    }
-    dest.0 <= Muid::BROADCAST_VALUE
-}
+ghost use Rattle.pe_frame.specs.Write.{writeWhole};
 
 // The header's 13 bytes at the front of out, which has room for them.
-fn put_header(sub_id2: u8, source: Muid, dest: Muid, out: &mut [u8])
-    requires { ⌜ (within28 (headerFor «sub_id2» (source .0) (dest .0)) ≡ true) × (13 ≤ length (now out)) ⌝ }
-    ensures { λ _. ⌜ now (out .exit) ≡ put (now (out .entry)) 0 (headerBytes (headerFor «sub_id2» (source .0) (dest .0))) ⌝ }
+fn put_header(header: CiHeader, out: &mut [u8])
+    requires { ⌜ (within28 (headerOf header) ≡ true) × (13 ≤ length (now out)) ⌝ }
+    ensures { λ _. ⌜ now (out .exit) ≡ put (now (out .entry)) 0 (headerBytes (headerOf header)) ⌝ }
 {
-    let header = CiHeader {
-        device_id: DEVICE_ID_FUNCTION_BLOCK,
-        sub_id2,
-        version: MESSAGE_FORMAT_VERSION_1_2,
-        source,
-        dest,
-    };
     header.encode(out);
 }
 
@@ -63,29 +47,29 @@ pub fn encode_message(
         (chunkFrom «request_id» (now (header .entry)) «num_chunks» «chunk_num» (now (property .entry))) (length (now (out .entry))))
         (now (out .entry)) ⌝ }
 {
-    if !muids_fit(sub_id2, source, dest) {
+    let ci_header = CiHeader {
+        device_id: DEVICE_ID_FUNCTION_BLOCK,
+        sub_id2,
+        version: MESSAGE_FORMAT_VERSION_1_2,
+        source,
+        dest,
+    };
+    if !ci_header.muids_fit() {
         return Encoded::Refused(PeError::Ci(CiError::InvalidMuid));
     }
     if !is_pe_chunked_sub_id(sub_id2) {
         return Encoded::Refused(PeError::Ci(CiError::UnsupportedSubId2(sub_id2)));
     }
-    let answer = questions(request_id, header, num_chunks, chunk_num, property);
-    let Encoded::Wrote(len) = answer else {
-        return answer;
+    let len = match questions(request_id, header, num_chunks, chunk_num, property) {
+        ChunkLen::Bytes(n) => n,
+        ChunkLen::Refused(e) => return Encoded::Refused(e),
     };
     let need = CI_HEADER_LEN + len;
     if out.len() < need {
         return Encoded::Refused(PeError::BufferTooSmall);
     }
-    put_header(sub_id2, source, dest, out);
-    fill(
-        request_id,
-        header,
-        num_chunks,
-        chunk_num,
-        property,
-        out,
-        CI_HEADER_LEN,
-    );
+    put_header(ci_header, out);
+    let at = CI_HEADER_LEN;
+    fill(request_id, header, num_chunks, chunk_num, property, out, at);
     Encoded::Wrote(need)
 }

@@ -1,14 +1,14 @@
 use borrow.Author.Needs.{needs}
 use Rattle.codec_exports.proofs.answer.ci_encoded.Statement.{statement}
 use Rattle.codec_exports.proofs.answer.ci_encoded.Tie as tie
-use Rattle.midici_core.specs.declared.header.Encoded.{Encoded}
-use Rattle.midici_core.specs.Header.{encodedTold}
+use Rattle.midici_core.specs.declared.header.CiEncoded.{CiEncoded}
+use Rattle.midici_core.specs.Header.{ciEncodedTold}
 use Rattle.hub.specs.declared.answer.Answer.{Answer}
 use Rattle.hub.specs.Answers.{answerOf}
 use Rattle.hub.proofs.AnswerLaws.{matched}
 
-abbrev tells : Encoded → Answer
-tells a = answerOf (encodedTold a)
+abbrev tells : CiEncoded → Answer
+tells a = answerOf (ciEncodedTold a)
 
 enum-known-a : tie.Need-enum-known-a
 enum-known-a c = search needs

@@ -4,7 +4,8 @@ use lib.ListN.{drop}
 use borrow.Author.Needs.{needs}
 use Rattle.midici_core.proofs.spec.kind_of.Statement.{statement}
 use Rattle.midici_core.proofs.spec.kind_of.Tie as tie
-use Rattle.midici_core.proofs.KindLaws.{table, found, found-here, found-next, found-none, table-rule}
+use Rattle.midici_core.specs.Kinds.{table, found}
+use Rattle.midici_core.proofs.KindLaws.{found-here, found-next, found-none, table-rule}
 
 abbrev Inv-loop : tie.InvT-loop
 Inv-loop sub-id2 i₀ i = (i ≤ 9) × (found sub-id2 table ≡ found sub-id2 (drop i table))

@@ -6,14 +6,12 @@ use borrow.Author.Needs.{needs}
 use Rattle.pe_frame.proofs.frame.encode.Statement.{statement}
 use Rattle.pe_frame.proofs.frame.encode.Tie as tie
 use denote.Ref.{now}
-use Rattle.seven_bit.specs.Reply.{granted, outcome}
+use Rattle.seven_bit.specs.Reply.{granted}
 use Rattle.seven_bit.proofs.PartLaws.{put-front, length-put}
 use Rattle.seven_bit.proofs.ReplyLaws.{wrote, same-grant}
-use Rattle.pe_wire.specs.Wire.{encodedTold}
-use Rattle.pe_wire.specs.declared.wire.Encoded.{Encoded}
 use Rattle.pe_frame.specs.Chunk.{Chunk}
-use Rattle.pe_frame.specs.Write.{chunkLen, chunkBytes}
-use Rattle.pe_frame.proofs.ChunkLaws.{InRange, ask-told, write-refused, write-short, write-granted, chunk-length}
+use Rattle.pe_frame.specs.Write.{InRange, chunkLen, chunkLenTold, chunkBytes}
+use Rattle.pe_frame.proofs.ChunkLaws.{ask-told, write-refused, write-short, write-granted, chunk-length}
 
 abbrev chunk : tie.Start → Chunk
 chunk c = record { request-id = c .args .request-id; header = now (c .args .header); num-chunks = c .args .num-chunks; chunk-num = c .args .chunk-num; property = now (c .args .property) }
@@ -21,30 +19,29 @@ chunk c = record { request-id = c .args .request-id; header = now (c .args .head
 abbrev size : tie.Start → ℕ
 size c = 9 + length (now (c .args .header)) + length (now (c .args .property))
 
-abbrev start : tie.After-answer → tie.Start
+abbrev start : tie.After-n → tie.Start
 start c = c .before .before .before .before .before .before
 
 -- what the questions' answer tells
-told : (c : tie.After-answer) → InRange (chunk (start c)) × (granted (size (start c)) ≡ granted (c .answer .given .0 .0))
-told c = ask-told (chunk (start c)) _ _ (sym (c .before .before .questions .ensures) ∙ ap encodedTold (c .answer .given .1))
+told : (c : tie.After-n) → InRange (chunk (start c)) × (granted (size (start c)) ≡ granted (c .n .given .0 .0))
+told c = ask-told (chunk (start c)) _ _ (sym (c .before .before .questions .ensures) ∙ ap chunkLenTold (c .n .given .1))
 
-need : (c : tie.After-answer) → size (start c) ≡ c .answer .given .0 .0
+need : (c : tie.After-n) → size (start c) ≡ c .n .given .0 .0
 need c = same-grant _ _ _ refl (told c .1)
 
 questions-requires : tie.Need-questions-requires
 questions-requires c κs = search needs
 
-enum-known-answer : tie.Need-enum-known-answer
-enum-known-answer c = search needs
+enum-known-n : tie.Need-enum-known-n
+enum-known-n c = search needs
 
-enum-told : tie.Need-enum-told
-enum-told c = search needs
+enum-known-e : tie.Need-enum-known-e
+enum-known-e c = search needs
 
 returns : tie.Need-returns
 returns c =
-    let g = c .enum-told .given .1 in
-    let e = sym (c .before .before .questions .ensures) ∙ ap encodedTold g in
-    rw (write-refused (chunk (c .before .before .before .before .before .before)) _ _ _ _ e) (ap (λ (r : Encoded). outcome (encodedTold r) (now (c .before .before .before .before .before .before .args .out))) g)
+    let e = sym (c .before .before .before .questions .ensures) ∙ ap chunkLenTold (c .before .e .given .1) in
+    rw (write-refused (chunk (c .before .before .before .before .before .before .before)) _ _ _ _ e)
 
 returns-2 : tie.Need-returns-2
 returns-2 c =
@@ -75,8 +72,8 @@ encode-spec =
     tie.close
     (tie.spec
     questions-requires
-    enum-known-answer
-    enum-told
+    enum-known-n
+    enum-known-e
     returns
     returns-2
     fill-requires

@@ -9,17 +9,15 @@ use mathlib.Core.Bool.{true, false}
 use borrow.Author.Tests.{not-true, not-false}
 use denote.Ref.{now}
 use Rattle.seven_bit.specs.Parts.{put}
-use Rattle.seven_bit.specs.Reply.{granted, outcome}
+use Rattle.seven_bit.specs.Reply.{granted}
 use Rattle.seven_bit.proofs.PartLaws.{put-front, length-put}
 use Rattle.seven_bit.proofs.ReplyLaws.{wrote, same-grant}
 use Rattle.midici_core.specs.Header.{headerBytes, within28}
 use Rattle.midici_core.specs.Kinds.{carriesChunk}
 use Rattle.midici_core.proofs.HeaderLaws.{header-length}
-use Rattle.pe_wire.specs.Wire.{encodedTold}
-use Rattle.pe_wire.specs.declared.wire.Encoded.{Encoded}
 use Rattle.pe_frame.specs.Chunk.{Chunk}
-use Rattle.pe_frame.specs.Write.{chunkBytes, headerFor, writeWhole}
-use Rattle.pe_frame.proofs.ChunkLaws.{InRange, ask-told, put-on}
+use Rattle.pe_frame.specs.Write.{InRange, chunkBytes, chunkLenTold, headerFor, writeWhole}
+use Rattle.pe_frame.proofs.ChunkLaws.{ask-told, put-on}
 use Rattle.pe_frame.proofs.MessageLaws.{wholeBytes, whole-length, whole-granted, whole-short, whole-refused}
 
 abbrev chunk : tie.Start → Chunk
@@ -39,17 +37,17 @@ kind : (c : tie.Else2) → carriesChunk (start c .args .sub-id2) ≡ true
 kind c = sym (c .before .is-pe-chunked-sub-id .ensures) ∙ not-false _ (c .if2 .left)
 
 -- what the answer of the chunk's questions tells
-abbrev up : tie.After-answer → tie.Start
+abbrev up : tie.After-n → tie.Start
 up c = start (c .before .before .before)
 
-told : (c : tie.After-answer) → InRange (chunk (up c)) × (granted (size (up c)) ≡ granted (c .answer .given .0 .0))
-told c = ask-told (chunk (up c)) _ _ (sym (c .before .before .questions .ensures) ∙ ap encodedTold (c .answer .given .1))
+told : (c : tie.After-n) → InRange (chunk (up c)) × (granted (size (up c)) ≡ granted (c .n .given .0 .0))
+told c = ask-told (chunk (up c)) _ _ (sym (c .before .before .questions .ensures) ∙ ap chunkLenTold (c .n .given .1))
 
-len : (c : tie.After-answer) → size (up c) ≡ c .answer .given .0 .0
+len : (c : tie.After-n) → size (up c) ≡ c .n .given .0 .0
 len c = same-grant _ _ _ refl (told c .1)
 
 -- what out holds behind the header
-headed : (c : tie.After-put-header) → length (c .put-header .last .1 .1 .1 .0) ≡ length (now (up (c .before .before .before .before) .args .out))
+headed : (c : tie.After-put-header) → length (c .put-header .last .1 .0) ≡ length (now (up (c .before .before .before .before) .args .out))
 headed c = ap length (c .put-header .ensures) ∙ length-put (now (up (c .before .before .before .before) .args .out)) _ _
 
 -- and behind the chunk
@@ -83,19 +81,17 @@ returns-2 c =
 questions-requires : tie.Need-questions-requires
 questions-requires c κs = search needs
 
-enum-known-answer : tie.Need-enum-known-answer
-enum-known-answer c = search needs
+enum-known-n : tie.Need-enum-known-n
+enum-known-n c = search needs
 
-enum-told : tie.Need-enum-told
-enum-told c = search needs
+enum-known-e : tie.Need-enum-known-e
+enum-known-e c = search needs
 
 returns-3 : tie.Need-returns-3
 returns-3 c =
-    let d = c .before .before .before in
-    let a = start d in
-    let g = c .enum-told .given .1 in
-    let e = sym (c .before .before .questions .ensures) ∙ ap encodedTold g in
-    rw (whole-refused _ _ _ (chunk a) _ (consoles d) (kind d) _ _ _ e) (ap (λ (r : Encoded). outcome (encodedTold r) (now (a .args .out))) g)
+    let d = c .before .before .before .before in
+    let e = sym (c .before .before .before .questions .ensures) ∙ ap chunkLenTold (c .before .e .given .1) in
+    rw (whole-refused _ _ _ (chunk (start d)) _ (consoles d) (kind d) _ _ _ e)
 
 add-need : tie.Need-add-need
 add-need c =
@@ -140,8 +136,8 @@ encode-message-spec =
     is-pe-chunked-sub-id-requires
     returns-2
     questions-requires
-    enum-known-answer
-    enum-told
+    enum-known-n
+    enum-known-e
     returns-3
     add-need
     returns-4

@@ -10,9 +10,8 @@ use borrow.Author.Tests.{le-leb}
 use denote.Ref.{now}
 use Rattle.seven_bit.specs.Reply.{Reply, Outcome, granted, writing}
 use Rattle.seven_bit.proofs.PartLaws.{put-front}
-use Rattle.midici_core.specs.Header.{headerBytes, writeHeader}
+use Rattle.midici_core.specs.Header.{headerBytes, headerOf, writeHeader}
 use Rattle.midici_core.proofs.HeaderLaws.{header-length}
-use Rattle.pe_frame.specs.Write.{headerFor}
 
 encode-requires : tie.Need-encode-requires
 encode-requires c κs = search needs
@@ -25,7 +24,7 @@ unfolding writeHeader
 returns c =
     let a = c .before .before .before .before .before in
     let d = now (a .args .out) in
-    let h = headerFor (a .args .sub-id2) (a .args .source .0) (a .args .dest .0) in
+    let h = headerOf (a .args .header) in
     let w : writeHeader h (length d) ≡ granted (headerBytes h) = rw (a .pre .0, le-leb _ _ (a .pre .1)) in
     let e = c .before .before .encode .ensures ∙ ap (λ (r : Reply (List ℕ)). writing r d) w in
     ap (λ (o : Outcome). o .out) e ∙ sym (put-front d (headerBytes h) (omega (arith, header-length h, a .pre .1)))
