@@ -18,7 +18,7 @@ use Rattle.pe_frame.specs.Write.{chunkBytes, chunkLen, writeWhole}
 use Rattle.pe_frame.proofs.ChunkLaws.{InRange, ask-yes}
 use Rattle.pe_frame.proofs.RoundTrip.{bytes-read, bytes-chunk, whole-then-read, read-bytes-are, fields}
 use Rattle.pe_slot.specs.Slot.{Piece, held, allHeld, bodyLen, isWhole, eventOf, headerFits, sameHeader, headerAgrees, noneKnown, newHeader, countAgrees, newCount, afterChunk, passed, judge}
-use Rattle.pe_chunker.specs.Cut.{clamped, budget, laterCapacity, firstCapacity, cutUp, bodyPieces, chunkAt, askCut, cutCount, cutChunk}
+use Rattle.pe_chunker.specs.Cut.{clamped, budget, laterCapacity, firstCapacity, askFirst, cutUp, bodyPieces, chunkAt, askCut, cutCount, cutChunk}
 use Rattle.pe_chunker.proofs.CutLaws.{budget-between}
 use Rattle.pe_chunker.proofs.Theorems.{fields-in-range, budget-is-room}
 use Rattle.pe_reassembler.specs.Open.{Perm, swap}
@@ -50,7 +50,7 @@ fed-arrives peer c now-ms m r = rw (outputs-long, m, bytes-read c r, bytes-chunk
 
 -- ---- the list
 cut-count : cutCount 5 header body 128 ≡ granted 2
-unfolding cutCount askCut isSevenBit bodyPieces cutUp firstCapacity laterCapacity budget clamped
+unfolding cutCount askCut askFirst isSevenBit bodyPieces cutUp firstCapacity laterCapacity budget clamped
 cut-count = refl
 
 first-chunk : chunkAt 5 header body 128 1 ≡ one
