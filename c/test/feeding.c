@@ -1,7 +1,6 @@
 /* Tests of a table that is fed: what is joined, closed, listed and counted, and the refusals of chunks that reach a list.
  */
 #include "check.h"
-#include "model.h"
 
 #include <string.h>
 
