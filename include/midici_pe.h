@@ -166,11 +166,11 @@ midici_pe_answer midici_pe_encode_message(uint8_t sub_id2, uint32_t source, uint
  * touched. midici_pe_new makes a table in them. From then on only the calls below may write them; you may move or copy a
  * table between calls. Every call is lent just the slices that it needs.
  *
- * A call that names another shape is not one on this table, and what it leaves is no table of either shape. So it is with
- * memory that was never given to midici_pe_new, or that somebody else wrote. Feeding asks whether the one list that it
- * reaches can be what calls leave, and answers 31 where it cannot; it does not see every such change, and the other calls
- * take what is stored as it is. No call goes beyond the lent slices for it. What helps is midici_pe_new, and nothing
- * else. */
+ * A call that names another shape is not one on this table, and what it leaves may be no table of either shape. So it is
+ * with memory that was never given to midici_pe_new, or that somebody else wrote. Feeding asks whether the one list that it
+ * reaches can be what calls leave, and answers 31 where it cannot (or 7 or 6 before, where every place looks taken). It does
+ * not see every such change, and the other calls take what is stored as it is; no call goes beyond the lent slices for it.
+ * What helps is midici_pe_new, and nothing else. */
 #define MIDICI_PE_NUMBERS_LEN(max_peers) ((size_t)1 + (size_t)38 * (max_peers))                         /* uint64_t */
 #define MIDICI_PE_INDEX_LEN(max_peers, fragment_records) ((size_t)4 * (max_peers) * (fragment_records)) /* uint64_t */
 #define MIDICI_PE_HEADERS_LEN(max_peers, header_bytes) ((size_t)4 * (max_peers) * (header_bytes))       /* uint8_t */
@@ -206,8 +206,8 @@ midici_pe_answer midici_pe_new(size_t max_peers, size_t header_bytes, size_t tx_
  *   4 a header longer than header_bytes; 8 another header than before; 8 another count than before;
  *   8 chunk number 0, and the list is closed; 8 a chunk that is there already;
  *   5 no record for another chunk; 5 a body longer than tx_bytes, and the list is closed.
- * The list has then been opened, if it was not open, its time is now_ms, and it may have taken the chunk's header and count,
- * but not its bytes. But for the two cases named it stays open and keeps what it holds: so also where a chunk with number 0
+ * The list has then been opened, if it was not open, its time is now_ms, and it may have taken the chunk's header and
+ * count, but not its bytes. But for the two cases named it stays open and keeps what it holds: so also where a chunk with number 0
  * has another count, or one that makes the body too long is there already or finds no record. */
 midici_pe_fed midici_pe_feed(size_t max_peers, size_t header_bytes, size_t tx_bytes, size_t fragment_records,
                              uint64_t *numbers, size_t numbers_len, uint64_t *index, size_t index_len, uint8_t *headers,
@@ -215,8 +215,8 @@ midici_pe_fed midici_pe_feed(size_t max_peers, size_t header_bytes, size_t tx_by
                              const uint8_t *raw_chunk, size_t raw_chunk_len, uint64_t now_ms, uint8_t *out_header,
                              size_t out_header_len, uint8_t *out_body, size_t out_body_len);
 
-/* Feeds the chunk of a whole message (without F0 and F7) as one from its source. The destination is not looked at: a message
- * for somebody else is yours to sort out before.
+/* Feeds the chunk of a whole message (without F0 and F7) as one from its source. The destination is not looked at: a
+ * message for somebody else is yours to sort out before.
  * Refusals: 30; then 21, 22, 23, 26 and 24 (`value` is the kind), which leave everything as it was; then those of
  * midici_pe_feed, with what they leave, but 28: a source has 28 bits. */
 midici_pe_fed midici_pe_feed_message(size_t max_peers, size_t header_bytes, size_t tx_bytes, size_t fragment_records,

@@ -287,6 +287,32 @@ static void test_damage(const struct damage *damage)
     table_free(&table);
 }
 
+/* A table that is fed under another shape, and memory that midici_pe_new never had: 31, and only midici_pe_new helps. */
+static void test_no_table(void)
+{
+    struct table table;
+    struct bytes first = chunk_of(FIRST), second = chunk_of((struct fields){5, "", 3, 2, "de"});
+    table_make(&table, 2, HEADER_BYTES, TX_BYTES, RECORDS, 0);
+    table_keep(&table);
+    check(table_feed(&table, 1, first.at, first.len, 0).refusal == 7, "every record looks taken", "memory without a table");
+    check(table_same(&table), "everything stays", "memory without a table");
+    for (size_t p = 0; p < 2; p++)
+        lent_words(&table.lent[NUMBERS])[peer_at(p) + BOUND] = 0;
+    table_keep(&table);
+    check_refused(&table, table_feed(&table, 1, first.at, first.len, 0), 6, 0, "memory without a table");
+    lent_words(&table.lent[NUMBERS])[slot_at(0, 0) + ACTIVE] = 0;
+    table_keep(&table);
+    check_refused(&table, table_feed(&table, 1, first.at, first.len, 0), 31, 0, "memory without a table");
+    check(table_drop_peer(&table, 1).refusal == 0 && table_poll(&table, UINT64_MAX).refusal == 0, "they answer",
+          "memory without a table");
+    check(table_new(&table).refusal == 0, "a table is made", "memory without a table");
+    check(table_feed(&table, 1, first.at, first.len, 0).refusal == 0, "and takes chunks", "memory without a table");
+    table.fragment_records = 0;
+    table_keep(&table);
+    check_refused(&table, table_feed(&table, 1, second.at, second.len, 0), 31, 0, "another shape");
+    table_free(&table);
+}
+
 void test_lent_memory(void)
 {
     for (size_t i = 0; i < CALLS; i++) {
@@ -297,6 +323,7 @@ void test_lent_memory(void)
     test_nothing();
     test_longest();
     test_no_rooms();
+    test_no_table();
     for (size_t i = 0; i < sizeof damages / sizeof damages[0]; i++)
         test_damage(&damages[i]);
 }

@@ -136,6 +136,21 @@ static void test_poll(void)
     table_free(&table);
 }
 
+/* The clock goes back between two chunks: the order is that of the chunks, and a list whose time lies ahead stays. */
+static void test_poll_back(void)
+{
+    struct table table;
+    const uint64_t peers[] = {1, 2}, ids[] = {11, 21};
+    table_make(&table, PEERS, HEADER_BYTES, TX_BYTES, RECORDS, EXTRA);
+    table_new(&table);
+    open_one(&table, 1, 11, 5000);
+    open_one(&table, 2, 21, 1000);
+    open_one(&table, 1, 12, 20000);
+    check_poll(&table, 10000, 2, peers, ids);
+    check(table_open_list(&table).count == 1, "the list whose time lies ahead stays", "poll");
+    table_free(&table);
+}
+
 static void test_open_list(void)
 {
     struct table table;
@@ -318,6 +333,7 @@ void test_table_calls(void)
     test_cancel();
     test_drop();
     test_poll();
+    test_poll_back();
     test_open_list();
     test_totals();
     test_large_totals();
