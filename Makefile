@@ -35,11 +35,10 @@ examples:
 compare:
 	@.ci/values "the comparison" SEED CASES RUNS
 	@oracle/at-hand
-	@echo "Comparing with the original: building some five minutes where nothing is built, then about a minute for a million cases and 20,000 runs."
 	@.ci/alone oracle/run compare $(SEED) $(CASES) $(RUNS)
 
 bench:
-	@oracle/at-hand
+	@oracle/at-hand Cannot-run "the benchmarks"
 	@.ci/alone bench/run
 
 vectors:
