@@ -2,10 +2,14 @@
 //! original's answers.
 pub mod case;
 pub mod damage;
-pub mod exhaustive;
 pub mod export;
+mod functions;
+pub mod input;
+mod inputs;
+pub mod layout;
 pub mod op;
 pub mod original;
 pub mod outcome;
 pub mod random;
+pub mod rng;
 pub mod run;

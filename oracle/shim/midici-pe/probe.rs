@@ -42,19 +42,20 @@ pub mod probe {
             self.0.last_activity_ms
         }
 
-        /// Its numbers, in the order in which the port stores them.
-        pub fn words(self) -> [u64; 9] {
-            [
-                self.0.active.into(),
-                self.0.request_id.into(),
-                self.0.last_activity_ms,
-                self.0.lru_tick,
-                self.0.num_chunks.into(),
-                self.0.header_set.into(),
-                self.0.header.len() as u64,
-                self.0.index.len() as u64,
-                self.0.property_bytes as u64,
-            ]
+        pub fn lru_tick(self) -> u64 {
+            self.0.lru_tick
+        }
+
+        pub fn num_chunks(self) -> u16 {
+            self.0.num_chunks
+        }
+
+        pub fn header_set(self) -> bool {
+            self.0.header_set
+        }
+
+        pub fn property_bytes(self) -> usize {
+            self.0.property_bytes
         }
 
         pub fn header(self) -> &'a [u8] {
