@@ -1,13 +1,13 @@
-/* Lent memory for the tests, and a table of it.
+/* Lent memory for the tests.
  *
  * A lent slice ends where a page begins that nobody may touch: a call that reads or writes past it ends the program. The
  * bytes before it, back to another such page, are known, and `lent_guarded` says whether they still are. */
 #ifndef LENT_H
 #define LENT_H
 
-#include "midici_pe.h"
-
 #include <stdbool.h>
+#include <stddef.h>
+#include <stdint.h>
 
 struct lent {
     uint8_t *room; /* all that may be touched */
@@ -40,39 +40,5 @@ bool lent_same_from(const struct lent *lent, size_t from);
 bool lent_guarded(const struct lent *lent);
 
 uint64_t *lent_words(const struct lent *lent);
-
-/* A table's shape, its memory and the outputs of its calls. */
-enum { NUMBERS, INDEX, HEADERS, ARENAS, OUT_HEADER, OUT_BODY, OUT_PEERS, OUT_REQUEST_IDS, OUT_CHUNKS_HELD, LENT };
-
-struct table {
-    size_t max_peers, header_bytes, tx_bytes, fragment_records;
-    struct lent lent[LENT];
-};
-
-/* How many bytes the shape asks of a slice, which must be in range. */
-size_t table_asks(const struct table *table, int slice);
-
-/* All slices of a table at once. */
-void table_make(struct table *table, size_t max_peers, size_t header_bytes, size_t tx_bytes, size_t fragment_records,
-                size_t extra_elements);
-void table_free(struct table *table);
-void table_keep(struct table *table);
-bool table_same(const struct table *table);
-bool table_guarded(const struct table *table);
-
-/* Is the slice one of uint64_t? */
-bool table_has_words(int slice);
-
-/* The calls, each lent its slices of the table. */
-midici_pe_answer table_new(struct table *table);
-midici_pe_fed table_feed(struct table *table, uint32_t peer, const uint8_t *raw_chunk, size_t raw_chunk_len,
-                         uint64_t now_ms);
-midici_pe_fed table_feed_message(struct table *table, const uint8_t *body, size_t body_len, uint64_t now_ms);
-midici_pe_answer table_cancel(struct table *table, uint32_t peer, uint8_t request_id);
-midici_pe_answer table_drop_peer(struct table *table, uint32_t peer);
-midici_pe_answer table_poll(struct table *table, uint64_t now_ms);
-midici_pe_answer table_open_list(struct table *table);
-midici_pe_stats table_memory_stats(struct table *table);
-midici_pe_answer table_reserved_bytes(struct table *table);
 
 #endif

@@ -1,5 +1,5 @@
 /* What the cutter and the writer of messages should answer and write. */
-#include "model.h"
+#include "table.h"
 
 #include <string.h>
 

@@ -4,25 +4,44 @@
  * A chunk is one piece of a list. A message is a CI header of 13 bytes with a chunk behind it, without F0 and F7.
  *
  * Memory. The library allocates nothing, keeps no pointer after a call and has no state of its own. All memory is yours
- * and is lent for the time of a call. It has no I/O, takes no locks and never ends the program.
+ * and is lent for the time of a call. It has no I/O, takes no locks and never ends the program. The one function that it
+ * calls is memset. No call takes more than MIDICI_PE_STACK_BYTES of stack.
  *
  * Slices. A slice is a pointer and a length; the length counts elements, not bytes. A pointer may be NULL where the length
- * is 0. Otherwise it points to that many elements, aligned as C aligns their type. A slice that is not const must not
- * overlap another slice of the same call. A call writes within the slices that are not const, and nowhere else.
+ * is 0. A call writes within the slices that are not const, and nowhere else.
  *
- * Threads. A table is four slices of memory. Calls on one table must not run at the same time; calls on different tables
- * may.
+ * Answers. midici_pe_answer, midici_pe_fed and midici_pe_stats begin with `refusal`: 0, or the number that says why the
+ * call was turned down (enum midici_pe_refusal). With a refusal every other field is 0, except `value` with number 24.
+ * Unless a call says otherwise, a refused call leaves all lent memory as it was. midici_pe_request_id has no refusal.
+ * Compare fields, not the bytes of the structs: there is padding between fields.
  *
- * Answers. Every struct begins with `refusal`: 0, or the number that says why the call was turned down (enum
- * midici_pe_refusal). With a refusal every other field is 0, except `value` with number 24. Unless a call says otherwise,
- * a refused call leaves all lent memory as it was. No argument is too wrong to ask: every call answers. (A pointer that
- * does not point to as many elements as its length says is beyond what a call can see.) Compare fields, not the bytes of
- * the structs: there is padding between fields. */
+ * Time. Every call returns, whatever its arguments. It takes time by the bytes and the records that it handles, with one
+ * exception: a whole list whose chunk numbers have a gap above the count is joined in time by the square of its chunks,
+ * some two million steps for 2,048 of them.
+ *
+ * Trust. What is said here is proved of calls that keep four rules, and a call cannot see whether they are kept:
+ *   - a slice with a length above 0 points to that many elements, aligned as C aligns their type;
+ *   - a slice that is not const does not overlap another slice of the same call;
+ *   - while a call runs, nobody else writes what it is lent, and nobody else reads what it may write: calls on one table
+ *     run one after the other, calls on different tables may run at the same time;
+ *   - the program is compiled for x86-64 as ELF systems call functions there, with a size_t of 64 bits.
+ * If one is broken, nothing is said any more: the call may write anywhere, answer anything or never return. */
 #ifndef MIDICI_PE_H
 #define MIDICI_PE_H
 
+#if !defined(__x86_64__) || defined(__ILP32__) || defined(_WIN32) || defined(__APPLE__)
+#error "midici_pe: the library is compiled for x86-64 with 64-bit pointers and the calls of ELF systems (Linux, BSD), and for nothing else"
+#endif
+
 #include <stddef.h>
 #include <stdint.h>
+
+#define MIDICI_PE_VERSION_MAJOR 0
+#define MIDICI_PE_VERSION_MINOR 1
+#define MIDICI_PE_VERSION_PATCH 0
+
+/* More stack than any call takes (make sizes measures each). */
+#define MIDICI_PE_STACK_BYTES 8192
 
 #ifdef __cplusplus
 extern "C" {
@@ -53,7 +72,7 @@ enum midici_pe_refusal {
 
     MIDICI_PE_CHUNK_OUT_OF_RANGE = 29,     /* no chunk of the list has this number */
     MIDICI_PE_BAD_SHAPE = 30,              /* the shape is out of range, or a lent slice is too short for it */
-    MIDICI_PE_DAMAGED_SLOT = 31            /* the table's memory holds what no call leaves there: somebody else wrote it */
+    MIDICI_PE_DAMAGED_SLOT = 31            /* the table's memory holds what no call on it leaves there (see Receiving) */
 };
 
 /* What most calls answer. `value` is the kind of message with refusal 24, else 0. What `count` counts is said at each call;
@@ -65,7 +84,7 @@ typedef struct midici_pe_answer {
 } midici_pe_answer;
 
 /* What feeding answers. `whole` is 1 when the list is complete: then `header_len` and `body_len` are its lengths, and the
- * two outputs begin with it. `whole` is 0 while chunks are missing. */
+ * two outputs begin with it. While chunks are missing, `whole` and both lengths are 0. */
 typedef struct midici_pe_fed {
     uint8_t refusal;
     uint8_t value;
@@ -101,8 +120,10 @@ typedef struct midici_pe_request_id {
 /* The largest MUID. */
 #define MIDICI_PE_MUID_MAX 0x0FFFFFFFu
 
-/* Hands out a request id: `request_id` is the counter as it came in, `counter` is the counter for the next call. The next
- * counter is one more, from 1 to 127 and then 1 again. Start with 1; any byte is taken. */
+/* Hands out a request id: `request_id` is the counter as it came in, `counter` is the counter for the next call. Start with
+ * 1: then the ids are 1 to 127, and 1 again. Any other byte is taken too. From 128 on, the id that is handed out is above
+ * 7F, so that the cutter and the writer refuse it (1), and the next counter is one more, cut to seven bits: 200 hands out
+ * 200 and gives 73. A counter of 0 is never given back. */
 midici_pe_request_id midici_pe_alloc_out_request_id(uint8_t counter);
 
 /* `count` is how many chunks the header and the body are cut into (1 to 16,383). No message with one of them is longer than
@@ -143,14 +164,20 @@ midici_pe_answer midici_pe_encode_message(uint8_t sub_id2, uint32_t source, uint
  *   fragment_records  how many chunks one open list can hold, 0 to 2,048
  * Its memory is four slices of at least the lengths below; longer ones are fine, and what is past the length is never
  * touched. midici_pe_new makes a table in them. From then on only the calls below may write them; you may move or copy a
- * table between calls. Every call is lent just the slices that it needs. */
-#define MIDICI_PE_NUMBERS_LEN(max_peers) (1 + 38 * (max_peers))                                 /* uint64_t */
-#define MIDICI_PE_INDEX_LEN(max_peers, fragment_records) (4 * (max_peers) * (fragment_records)) /* uint64_t */
-#define MIDICI_PE_HEADERS_LEN(max_peers, header_bytes) (4 * (max_peers) * (header_bytes))       /* uint8_t */
-#define MIDICI_PE_ARENAS_LEN(max_peers, tx_bytes) (4 * (max_peers) * (tx_bytes))                /* uint8_t */
+ * table between calls. Every call is lent just the slices that it needs.
+ *
+ * A call that names another shape is not one on this table, and what it leaves may be no table of either shape. So it is
+ * with memory that was never given to midici_pe_new, or that somebody else wrote. Feeding asks whether the one list that it
+ * reaches can be what calls leave, and answers 31 where it cannot (or 7 or 6 before, where every place looks taken). It does
+ * not see every such change, and the other calls take what is stored as it is; no call goes beyond the lent slices for it.
+ * What helps is midici_pe_new, and nothing else. */
+#define MIDICI_PE_NUMBERS_LEN(max_peers) ((size_t)1 + (size_t)38 * (max_peers))                         /* uint64_t */
+#define MIDICI_PE_INDEX_LEN(max_peers, fragment_records) ((size_t)4 * (max_peers) * (fragment_records)) /* uint64_t */
+#define MIDICI_PE_HEADERS_LEN(max_peers, header_bytes) ((size_t)4 * (max_peers) * (header_bytes))       /* uint8_t */
+#define MIDICI_PE_ARENAS_LEN(max_peers, tx_bytes) ((size_t)4 * (max_peers) * (tx_bytes))                /* uint8_t */
 
 /* The least length of each output of a poll and of an open list. */
-#define MIDICI_PE_PLACES(max_peers) (4 * (max_peers))
+#define MIDICI_PE_PLACES(max_peers) ((size_t)4 * (max_peers))
 
 /* The full size. */
 #define MIDICI_PE_MAX_PEERS 16
@@ -168,34 +195,37 @@ midici_pe_answer midici_pe_new(size_t max_peers, size_t header_bytes, size_t tx_
                                uint64_t *numbers, size_t numbers_len, uint64_t *index, size_t index_len,
                                const uint8_t *headers, size_t headers_len, const uint8_t *arenas, size_t arenas_len);
 
-/* Feeds a chunk that came from a peer at the time `now_ms`, in milliseconds of a clock of yours. If it completes its list,
- * `whole` is 1, the header stands in out_header, the body in out_body, in the order of chunk numbers, and the list is
- * closed. out_header has at least header_bytes elements, out_body at least tx_bytes. Past the list, and with any other
- * answer, both outputs keep their bytes.
+/* Feeds a chunk that came from a peer at the time `now_ms`, in milliseconds of a clock of yours. The list is complete with
+ * the chunk that leaves its count known and each number from 1 to the count held. Then `whole` is 1, the header stands in
+ * out_header, the body in out_body, in the order of chunk numbers, and the list is closed. Chunks numbered above the count
+ * are taken, and joined behind the others. out_header has at least header_bytes elements, out_body at least tx_bytes. Past
+ * the list, and with any other answer, both outputs keep their bytes.
  * Refusals that leave everything as it was: 30; 28 peer above 0FFFFFFF; 2, 1 and 8 bytes that are no chunk, 8 being a
  * header on a chunk other than the first; 7; 6; 31.
- * Refusals of a chunk that reached its list: 4 a header longer than header_bytes; 8 another header or another count than
- * before, chunk number 0, or a chunk that is there already; 5 no room for another chunk, or for its bytes. The list has
- * then been opened, if it was not open, its time is now_ms, and it may have taken the chunk's header and count, but not its
- * bytes. It stays open and keeps what it holds, with two exceptions: chunk number 0 and a body longer than tx_bytes close
- * it. */
+ * Refusals of a chunk that reached its list, in the order in which they are asked; the first no is the answer:
+ *   4 a header longer than header_bytes; 8 another header than before; 8 another count than before;
+ *   8 chunk number 0, and the list is closed; 8 a chunk that is there already;
+ *   5 no record for another chunk; 5 a body longer than tx_bytes, and the list is closed.
+ * The list has then been opened, if it was not open, its time is now_ms, and it may have taken the chunk's header and
+ * count, but not its bytes. But for the two cases named it stays open and keeps what it holds: so also where a chunk with number 0
+ * has another count, or one that makes the body too long is there already or finds no record. */
 midici_pe_fed midici_pe_feed(size_t max_peers, size_t header_bytes, size_t tx_bytes, size_t fragment_records,
                              uint64_t *numbers, size_t numbers_len, uint64_t *index, size_t index_len, uint8_t *headers,
                              size_t headers_len, uint8_t *arenas, size_t arenas_len, uint32_t peer,
                              const uint8_t *raw_chunk, size_t raw_chunk_len, uint64_t now_ms, uint8_t *out_header,
                              size_t out_header_len, uint8_t *out_body, size_t out_body_len);
 
-/* Feeds the chunk of a whole message (without F0 and F7) as one from its source. The destination is not looked at: a message
- * for somebody else is yours to sort out before.
+/* Feeds the chunk of a whole message (without F0 and F7) as one from its source. The destination is not looked at: a
+ * message for somebody else is yours to sort out before.
  * Refusals: 30; then 21, 22, 23, 26 and 24 (`value` is the kind), which leave everything as it was; then those of
- * midici_pe_feed, with what they leave. */
+ * midici_pe_feed, with what they leave, but 28: a source has 28 bits. */
 midici_pe_fed midici_pe_feed_message(size_t max_peers, size_t header_bytes, size_t tx_bytes, size_t fragment_records,
                                      uint64_t *numbers, size_t numbers_len, uint64_t *index, size_t index_len,
                                      uint8_t *headers, size_t headers_len, uint8_t *arenas, size_t arenas_len,
                                      const uint8_t *body, size_t body_len, uint64_t now_ms, uint8_t *out_header,
                                      size_t out_header_len, uint8_t *out_body, size_t out_body_len);
 
-/* Closes the list that a peer has open with a request id. `count` is 1 if there was one, else 0.
+/* Closes the list that a peer has open with a request id (any byte). `count` is 1 if there was one, else 0.
  * Refusals: 30; 28 peer above 0FFFFFFF. Everything is then as it was. */
 midici_pe_answer midici_pe_cancel(size_t max_peers, size_t header_bytes, size_t tx_bytes, size_t fragment_records,
                                   uint64_t *numbers, size_t numbers_len, uint32_t peer, uint8_t request_id);
@@ -205,10 +235,11 @@ midici_pe_answer midici_pe_cancel(size_t max_peers, size_t header_bytes, size_t 
 midici_pe_answer midici_pe_drop_peer(size_t max_peers, size_t header_bytes, size_t tx_bytes, size_t fragment_records,
                                      uint64_t *numbers, size_t numbers_len, uint32_t peer);
 
-/* Closes each list whose last chunk came MIDICI_PE_TIMEOUT_MS or more before now_ms (none, if the clock went back). `count`
- * is how many there were. Peer and request id of each stand at the same place of the two outputs; the list that has waited
- * longest is the first. The outputs have at least MIDICI_PE_PLACES(max_peers) elements; places past the count keep their
- * values.
+/* Closes each list that no chunk has reached for MIDICI_PE_TIMEOUT_MS or more. A list whose time lies after now_ms (the
+ * clock went back) stays open; the others are judged as ever. `count` is how many are closed. Peer and request id of each
+ * stand at the same place of the two outputs, in the order in which their last chunks reached them; refused chunks that
+ * reached a list count too. The outputs have at least MIDICI_PE_PLACES(max_peers) elements; places past the count keep
+ * their values.
  * Refusals: 30, also for a short output. Everything is then as it was. */
 midici_pe_answer midici_pe_poll(size_t max_peers, size_t header_bytes, size_t tx_bytes, size_t fragment_records,
                                 uint64_t *numbers, size_t numbers_len, uint64_t now_ms, uint64_t *out_peers,

@@ -5,7 +5,6 @@
  * answer is the model's, every slice holds what the model says, nothing before a slice has changed (what is behind it
  * cannot be touched at all), a refusal has left the memory alone, and a whole list fits its outputs. */
 #include "fuzz.h"
-#include "model.h"
 
 #include <stdio.h>
 #include <stdlib.h>
@@ -124,7 +123,7 @@ static void call_feed_message(struct input *input, struct lending *lending)
         const uint8_t header[13] = {0x7E, 0x7F, 0x0D, 0x35, 2, (uint8_t)(take(input) % 5), 0, 0, 0, 1, 2, 3, 4};
         memcpy(body->at, header, sizeof header);
         if (odd >= 224)
-            body->at[take(input) % 13] = (uint8_t)take(input);
+            put_any(input, body->at, sizeof header);
     }
     lent_keep(body);
     table_keep(table);

@@ -1,7 +1,6 @@
 /* Tests of a table that is fed: what is joined, closed, listed and counted, and the refusals of chunks that reach a list.
  */
 #include "check.h"
-#include "model.h"
 
 #include <string.h>
 
@@ -64,6 +63,10 @@ static const struct feed_case {
       {1, {5, "HDR", 2, 1, "a"}, WHOLE("HDR", "ab"), 0}}},
     {"number 0 closes", {{1, {5, "HD", 2, 1, "a"}, WAITING, 1}, {1, {5, "", 2, 0, "x"}, REFUSED(8), 0}}},
     {"number 0 first", {{1, {5, "", 2, 0, "x"}, REFUSED(8), 0}}},
+    {"number 0 with another count stays open",
+     {{1, {5, "HD", 2, 1, "a"}, WAITING, 1},
+      {1, {5, "", 3, 0, "x"}, REFUSED(8), 1},
+      {1, {5, "", 2, 2, "b"}, WHOLE("HD", "ab"), 0}}},
     {"the longest header", {{1, {5, "12345678", 1, 1, "ab"}, WHOLE("12345678", "ab"), 0}}},
     {"a header one too long opens a list",
      {{1, {5, "123456789", 1, 1, "ab"}, REFUSED(4), 1}, {1, {5, "HD", 1, 1, "ab"}, WHOLE("HD", "ab"), 0}}},
@@ -83,6 +86,16 @@ static const struct feed_case {
       {1, {5, "HD", 2, 1, "0123456789ABCDEF"}, WHOLE("HD", "0123456789ABCDEF0123456789abcdef"), 0}}},
     {"a body one too long closes",
      {{1, {5, "", 2, 2, "0123456789abcdef"}, WAITING, 1}, {1, {5, "HD", 2, 1, "0123456789ABCDEFG"}, REFUSED(5), 0}}},
+    {"a duplicate with a body too long stays open",
+     {{1, {5, "", 2, 2, "b"}, WAITING, 1},
+      {1, {5, "", 2, 2, "0123456789ABCDEF0123456789ABCDEFG"}, REFUSED(8), 1},
+      {1, {5, "HD", 2, 1, "a"}, WHOLE("HD", "ab"), 0}}},
+    {"no record, and a body too long, stays open",
+     {{1, {5, "", 5, 5, "e"}, WAITING, 1},
+      {1, {5, "", 5, 4, "d"}, WAITING, 1},
+      {1, {5, "", 5, 3, "c"}, WAITING, 1},
+      {1, {5, "", 5, 2, "b"}, WAITING, 1},
+      {1, {5, "HD", 5, 1, "0123456789ABCDEF0123456789ABCDEFG"}, REFUSED(5), 1}}},
     {"a body too long at once", {{1, {5, "HD", 1, 1, "0123456789ABCDEF0123456789ABCDEFG"}, REFUSED(5), 0}}},
     {"four lists of one peer",
      {{1, {1, "", 2, 1, "a"}, WAITING, 1},

@@ -1,6 +1,6 @@
-/* The hub's program: the week of one scene list.
+/* The demo: the week of one scene list.
  *
- * A mixer sends its scene list to the hub, in chunks, by two cables. Both ends are played here: the mixer's side cuts the
+ * A mixer sends its scene list to a hub, in chunks, by two cables. Both ends are played here: the mixer's side cuts the
  * list and writes the messages, the hub's side feeds what arrives and puts the list together. Each step is printed, with
  * the bytes that travel. At the end what arrived is compared with what was sent: the exit status is 0 if it is the same,
  * 1 if it is not or if a call answered something else than the step expects. */
@@ -35,7 +35,7 @@ enum {
 };
 
 /* The MUIDs of the devices. */
-enum { HUB = 0x0123456, MIXER = 0x0A1B2C3, KEYBOARD = 0x0000011, DRUMS = 0x0000022, LIGHTS = 0x0FFFFFFF };
+enum { HUB = 0x0123456, MIXER = 0x0A1B2C3, KEYBOARD = 0x0000011, DRUMS = 0x0000022, LIGHTS = 0x0000033 };
 
 /* The table's memory, which is lent with each call. */
 static uint64_t numbers[NUMBERS_LEN];
@@ -51,9 +51,10 @@ struct list {
     uint8_t header[LIST_HEADER_LEN], body[LIST_BODY_LEN];
 };
 
-/* A message as it travels, from F0 to F7. */
+/* A message as it travels, from F0 to F7; without an F7 where the cable was pulled before. */
 struct message {
     size_t len;
+    bool is_torn;
     uint8_t bytes[MAX_SYSEX];
 };
 
@@ -91,6 +92,33 @@ static const char *name_of(uint64_t muid)
     }
 }
 
+/* A number with a comma after its thousands, as README writes it. */
+static const char *in_thousands(uint64_t number)
+{
+    static char text[4][32];
+    static unsigned next;
+    char *at = text[next++ % 4] + 31;
+    int digits = 0;
+    *at = '\0';
+    do {
+        if (digits > 0 && digits % 3 == 0)
+            *--at = ',';
+        *--at = (char)('0' + number % 10);
+        digits++;
+    } while ((number /= 10) > 0);
+    return at;
+}
+
+/* The first bytes as text, a line's end as a slash. */
+static void print_text(const char *name, const uint8_t *bytes, size_t len)
+{
+    const size_t most = 64;
+    printf("      %s:%*s", name, (int)(7 - strlen(name)), "");
+    for (size_t i = 0; i < len && i < most; i++)
+        putchar(bytes[i] == '\n' ? '/' : bytes[i] >= 0x20 && bytes[i] < 0x7F ? bytes[i] : '.');
+    puts(len > most ? " .." : len == 0 ? "(empty)" : "");
+}
+
 /* The first bytes and the last ones. */
 static void print_bytes(const uint8_t *bytes, size_t len)
 {
@@ -105,28 +133,35 @@ static void print_bytes(const uint8_t *bytes, size_t len)
     printf("\n");
 }
 
-static void print_message(const char *cable, uint32_t from, uint32_t to, const struct message *message)
+/* A message's bytes, and header and body of its chunk as text: what there is of them. */
+static void print_message(const struct message *message)
 {
-    printf("  cable %s, %s to %s, %zu bytes:\n     ", cable, name_of(from), name_of(to), message->len);
+    const uint8_t *chunk = message->bytes + 1 + MIDICI_PE_CI_HEADER_LEN, *end = message->bytes + message->len;
+    size_t header_len = chunk[1] + 128u * chunk[2];
+    const uint8_t *body = chunk + 3 + header_len + 6;
+    printf("      bytes: ");
     print_bytes(message->bytes, message->len);
+    if (header_len > 0)
+        print_text("header", chunk + 3, header_len);
+    print_text("body", body, (size_t)(end - body) - (message->is_torn ? 0 : 1));
 }
 
-static const char *in_words(uint8_t refusal)
+static const char *name_of_refusal(uint8_t refusal)
 {
     switch (refusal) {
     case MIDICI_PE_TRUNCATED:
-        return "the chunk ends too early";
+        return "MIDICI_PE_TRUNCATED: the chunk ends too early";
     case MIDICI_PE_INCONSISTENT_CHUNKING:
-        return "it does not go with the chunks before it";
+        return "MIDICI_PE_INCONSISTENT_CHUNKING: it does not go with the chunks before it";
     default:
-        return "midici_pe.h says what it means";
+        return "midici_pe.h has its name";
     }
 }
 
 static void print_fed(midici_pe_fed answer)
 {
     if (answer.refusal != MIDICI_PE_OK)
-        printf("      The table refuses it: number %d, %s.\n", answer.refusal, in_words(answer.refusal));
+        printf("      Refused, number %d, %s.\n", answer.refusal, name_of_refusal(answer.refusal));
     else if (answer.whole)
         printf("      The list is whole: %" PRIu64 " bytes of header, %" PRIu64 " of body.\n", answer.header_len,
                answer.body_len);
@@ -177,6 +212,13 @@ static void close_message(struct message *message, uint64_t len)
     message->bytes[0] = SYSEX_START;
     message->bytes[1 + len] = SYSEX_END;
     message->len = 1 + (size_t)len + 1;
+    message->is_torn = false;
+}
+
+/* How many bytes stand behind the first `before` ones, without the F7. */
+static size_t len_behind(const struct message *message, size_t before)
+{
+    return message->len - before - (message->is_torn ? 0 : 1);
 }
 
 /* The message that asks the mixer for its list. */
@@ -219,8 +261,8 @@ static void make_table(void)
 static midici_pe_fed arrive_whole(const struct message *message, uint64_t now_ms, struct received *received)
 {
     return midici_pe_feed_message(PEERS, HEADER_BYTES, TX_BYTES, RECORDS, numbers, NUMBERS_LEN, fragment_index, INDEX_LEN,
-                                  headers, sizeof headers, arenas, sizeof arenas, message->bytes + 1, message->len - 2,
-                                  now_ms, received->header, HEADER_BYTES, received->body, TX_BYTES);
+                                  headers, sizeof headers, arenas, sizeof arenas, message->bytes + 1,
+                                  len_behind(message, 1), now_ms, received->header, HEADER_BYTES, received->body, TX_BYTES);
 }
 
 /* What cable B's port does: it has read the CI header itself, and hands over the chunk behind it and its sender. */
@@ -228,8 +270,8 @@ static midici_pe_fed arrive_bare(uint32_t sender, const struct message *message,
 {
     size_t before = 1 + MIDICI_PE_CI_HEADER_LEN;
     return midici_pe_feed(PEERS, HEADER_BYTES, TX_BYTES, RECORDS, numbers, NUMBERS_LEN, fragment_index, INDEX_LEN, headers,
-                          sizeof headers, arenas, sizeof arenas, sender, message->bytes + before, message->len - before - 1,
-                          now_ms, received->header, HEADER_BYTES, received->body, TX_BYTES);
+                          sizeof headers, arenas, sizeof arenas, sender, message->bytes + before,
+                          len_behind(message, before), now_ms, received->header, HEADER_BYTES, received->body, TX_BYTES);
 }
 
 static midici_pe_fed arrive(char cable, uint32_t sender, const struct message *message, uint64_t now_ms,
@@ -250,9 +292,9 @@ static midici_pe_fed send_chunk(char cable, const struct list *list, uint16_t ch
                                 struct received *received)
 {
     struct message message = message_with_chunk(list, chunk_num);
-    printf("  %4" PRIu64 " ms: chunk %u of %" PRIu64 " from the %s comes by cable %c, in a message of %zu bytes:\n     ",
+    printf("  %4" PRIu64 " ms: chunk %u of %" PRIu64 " from the %s comes by cable %c, in a message of %zu bytes:\n",
            now_ms % DAY_MS, chunk_num, count_chunks(list), name_of(list->sender), cable, message.len);
-    print_bytes(message.bytes, message.len);
+    print_message(&message);
     return arrive(cable, list->sender, &message, now_ms, received);
 }
 
@@ -274,8 +316,8 @@ static void expect_whole(midici_pe_fed answer, const struct list *list)
 static void print_totals(uint64_t expected_open)
 {
     midici_pe_stats stats = midici_pe_memory_stats(PEERS, HEADER_BYTES, TX_BYTES, RECORDS, numbers, NUMBERS_LEN);
-    printf("  Totals: %" PRIu64 " bytes of memory, %" PRIu64 " lists open, %" PRIu64 " bytes held for them.\n",
-           stats.reserved_bytes, stats.active_slots, stats.active_bytes);
+    printf("  Totals: %s bytes of rooms, %" PRIu64 " lists open, %s bytes held for them.\n",
+           in_thousands(stats.reserved_bytes), stats.active_slots, in_thousands(stats.active_bytes));
     must(stats.refusal == MIDICI_PE_OK && stats.active_slots == expected_open, "so many lists are open");
 }
 
@@ -310,7 +352,10 @@ static void monday(void)
 {
     printf("\nMonday: the hub is switched on\n");
     make_table();
-    printf("  It lends memory to a table for %d peers, with up to four open lists each.\n", PEERS);
+    size_t rooms = sizeof fragment_index + sizeof headers + sizeof arenas;
+    printf("  It lends memory to a table for %d peers, with up to four open lists each: %s bytes, of which\n", PEERS,
+           in_thousands(sizeof numbers + rooms));
+    printf("  %s are the rooms for chunk records, headers and bodies.\n", in_thousands(rooms));
     print_totals(0);
 }
 
@@ -321,7 +366,8 @@ static uint8_t tuesday(void)
     midici_pe_request_id allocated = midici_pe_alloc_out_request_id(1);
     printf("  The question gets request number %d; the next one will get %d.\n", allocated.request_id, allocated.counter);
     struct message message = question(allocated.request_id);
-    print_message("A", HUB, MIXER, &message);
+    printf("  It goes to the mixer by cable A, in a message of %zu bytes:\n", message.len);
+    print_message(&message);
     return allocated.request_id;
 }
 
@@ -329,10 +375,8 @@ static void print_cut(const struct list *list)
 {
     printf("  The mixer's list has %zu bytes of header and %zu of body. No message may be longer than %d bytes.\n",
            list->header_len, list->body_len, MAX_SYSEX);
-    printf("  The header:");
-    print_bytes(list->header, list->header_len);
-    printf("  The body:  ");
-    print_bytes(list->body, list->body_len);
+    print_text("header", list->header, list->header_len);
+    print_text("body", list->body, list->body_len);
     printf("  So it is cut into %" PRIu64 " chunks, whose messages have", count_chunks(list));
     must(count_chunks(list) == CHUNKS, "there are five chunks");
     for (uint16_t chunk_num = 1; chunk_num <= CHUNKS; chunk_num++)
@@ -347,10 +391,11 @@ static void wednesday(const struct list *list, struct received *received)
     print_cut(list);
     expect_waiting(send_chunk('A', list, 1, day, received));
     message = message_with_chunk(list, 2);
-    close_message(&message, 100);
-    printf("     5 ms: the plug of cable B is pulled in the middle of chunk 2. The hub gets a message of %zu bytes:\n     ",
+    message.len = 100;
+    message.is_torn = true;
+    printf("     5 ms: the plug of cable B is pulled in the middle of chunk 2. The hub gets %zu bytes, and no F7:\n",
            message.len);
-    print_bytes(message.bytes, message.len);
+    print_message(&message);
     expect_refused(arrive('B', MIXER, &message, day + 5, received), MIDICI_PE_TRUNCATED);
     printf("      A chunk that cannot be read changes nothing, so the list's last chunk is still that of 0 ms.\n");
     poll_table(day + MIDICI_PE_TIMEOUT_MS, 1);
@@ -429,17 +474,21 @@ static bool friday(const struct list *list, const struct received *received)
 
 static void print_words(void)
 {
-    puts("The week of one scene list, which goes from a mixer to the hub.\n");
+    puts("MIDI-CI Property Exchange is how music devices ask each other for lists (scenes, presets, settings)");
+    puts("and send them in pieces, as MIDI messages. A hub stands between such devices and puts the pieces of");
+    puts("many lists together again, by several cables, in any order, from several devices at once. That it");
+    puts("does so as the requirement says, stays within the memory that it was lent and always answers is");
+    puts("proved for every input; this program calls it for one week, in which a mixer sends a scene list.\n");
     puts("A peer is a device that sends to the hub. A list is a header and a body. It travels in chunks,");
     puts("each in a message of its own, and a table in the hub's memory puts the chunks together again.");
     puts("A request number says which list of a peer a chunk belongs to. Bytes are hexadecimal, other");
-    puts("numbers decimal. Times are counted from the day's first chunk.");
+    puts("numbers decimal; in text a line's end is a slash. Times are counted from the day's first chunk.");
 }
 
 int main(void)
 {
-    struct received received, scratch;
-    struct list list;
+    static struct received received, scratch;
+    static struct list list;
     print_words();
     monday();
     fill_scene_list(&list, tuesday());

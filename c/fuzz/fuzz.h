@@ -2,7 +2,7 @@
 #ifndef FUZZ_H
 #define FUZZ_H
 
-#include "lent.h"
+#include "table.h"
 
 /* What is lent: a table's slices, and those of the other calls. */
 struct lending {
@@ -28,6 +28,9 @@ uint64_t take_number(struct input *input);
 
 /* A MUID: most often one of a few. */
 uint32_t take_muid(struct input *input);
+
+/* Puts a byte at one of `len` places: first the place is taken, then the byte. */
+void put_any(struct input *input, uint8_t *bytes, size_t len);
 
 /* A shape, and slices for it, filled with known bytes. */
 struct lending *choose_lending(struct input *input);

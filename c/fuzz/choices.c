@@ -1,5 +1,6 @@
 /* What a fuzzer's bytes choose: what is lent, what it holds, and the arguments of calls. */
 #include "fuzz.h"
+#include "layout.h"
 
 #include <string.h>
 
@@ -47,6 +48,12 @@ uint32_t take_muid(struct input *input)
     return choice < 220 ? MIDICI_PE_MUID_MAX : choice < 240 ? MIDICI_PE_MUID_MAX + 1 : (uint32_t)take_bits(input, 4);
 }
 
+void put_any(struct input *input, uint8_t *bytes, size_t len)
+{
+    size_t place = take(input) % len;
+    bytes[place] = (uint8_t)take(input);
+}
+
 /* A number of a shape: most often up to `few`, else at the end of its range, past it, or any. */
 static size_t take_size(struct input *input, size_t few, size_t most)
 {
@@ -88,10 +95,8 @@ static void choose_shape(struct input *input, struct table *table)
 static bool choose_lens(struct input *input, const struct table *table, size_t lens[LENT])
 {
     bool is_exact = take(input) < 192, is_small = true;
-    bool in_range = table->max_peers <= 16 && table->header_bytes <= 4096 && table->tx_bytes <= 65536 &&
-                    table->fragment_records <= 2048;
     for (int slice = 0; slice < LENT; slice++) {
-        size_t size = table_has_words(slice) ? 8 : 1, asked = in_range ? table_asks(table, slice) : 8 * size;
+        size_t size = table_has_words(slice) ? 8 : 1, asked = table_in_range(table) ? table_asks(table, slice) : 8 * size;
         lens[slice] = least(is_exact ? asked : take_len(input, asked, size), LARGE / 8 * 8);
         is_small = is_small && lens[slice] <= SMALL;
     }
@@ -166,25 +171,26 @@ static uint64_t any_word(const struct table *table, uint64_t *seed)
 /* Lays the records of a slot end to end, with any numbers, so that the slot may pass as sound. */
 static void lay_records(struct table *table, size_t slot, uint64_t *seed)
 {
-    uint64_t *words = lent_words(&table->lent[NUMBERS]) + 1 + 38 * (slot / 4) + 2 + 9 * (slot % 4);
-    uint64_t *index = lent_words(&table->lent[INDEX]) + slot * table->fragment_records;
+    uint64_t *words = lent_words(&table->lent[NUMBERS]) + slot_at(slot / SLOTS, slot % SLOTS);
+    uint64_t *index = lent_words(&table->lent[INDEX]) + room_at(table->fragment_records, slot / SLOTS, slot % SLOTS);
     uint64_t held = scatter(seed) % (table->fragment_records + 1), offset = 0;
     for (uint64_t i = 0; i < held; i++) {
         uint64_t len = least(scatter(seed) % 8, table->tx_bytes - offset);
-        index[i] = (offset * 65536 + len) * 65536 + (scatter(seed) % 16 == 0 ? scatter(seed) % 65536 : scatter(seed) % 6);
+        uint64_t number = scatter(seed) % 16 == 0 ? scatter(seed) % 65536 : scatter(seed) % 6;
+        index[i] = RECORD(number, len, offset);
         offset += len;
     }
-    words[0] = scatter(seed) % 8;
-    words[1] = scatter(seed) % 6;
-    words[4] = scatter(seed) % 8 == 0 ? any_word(table, seed) : scatter(seed) % 4;
-    words[6] = scatter(seed) % (table->header_bytes + 1);
-    words[7] = held;
-    words[8] = offset;
+    words[ACTIVE] = scatter(seed) % 8;
+    words[REQUEST_ID] = scatter(seed) % 6;
+    words[NUM_CHUNKS] = scatter(seed) % 8 == 0 ? any_word(table, seed) : scatter(seed) % 4;
+    words[HEADER_LEN] = scatter(seed) % (table->header_bytes + 1);
+    words[INDEX_LEN] = held;
+    words[PROPERTY_BYTES] = offset;
 }
 
 static bool is_lent_all(const struct table *table)
 {
-    if (table->max_peers > 16 || table->header_bytes > 4096 || table->tx_bytes > 65536 || table->fragment_records > 2048)
+    if (!table_in_range(table))
         return false;
     for (int slice = 0; slice < LENT; slice++)
         if (table->lent[slice].len < table_asks(table, slice))
@@ -203,7 +209,7 @@ void fill_table(struct input *input, struct table *table)
             lent_fill(lent);
     }
     if (take(input) % 2 == 0 && is_lent_all(table) && table->fragment_records > 0)
-        for (size_t slot = 0; slot < 4 * table->max_peers; slot++)
+        for (size_t slot = 0; slot < SLOTS * table->max_peers; slot++)
             if (scatter(&seed) % 4 != 0)
                 lay_records(table, slot, &seed);
 }
@@ -246,12 +252,13 @@ void choose_chunk(struct input *input, const struct table *table, struct lent *b
     for (size_t i = 0; i < property_len; i++)
         add_byte(bytes, &len, (unsigned)(16 * number + i));
     if (odd >= 248)
-        bytes->at[before + take(input) % (len - before)] = (uint8_t)take(input);
+        put_any(input, bytes->at + before, len - before);
 }
 
 void choose_bytes(struct input *input, struct lent *bytes)
 {
-    lend_bytes(bytes, least(take(input), input->left));
+    size_t wanted = take(input);
+    lend_bytes(bytes, least(wanted, input->left));
     for (size_t i = 0; i < bytes->len; i++)
         bytes->at[i] = (uint8_t)take(input);
 }
@@ -267,7 +274,7 @@ void choose_list(struct input *input, struct lending *lending)
     for (size_t i = 0; i < lending->body.len; i++)
         lending->body.at[i] = (uint8_t)(i * 7);
     if (odd % 8 == 1 && lending->header.len > 0)
-        lending->header.at[take(input) % lending->header.len] = (uint8_t)take(input);
+        put_any(input, lending->header.at, lending->header.len);
     lent_fill(&lending->out);
     lent_keep(&lending->header);
     lent_keep(&lending->body);

@@ -2,7 +2,7 @@
 #ifndef CHECK_H
 #define CHECK_H
 
-#include "lent.h"
+#include "table.h"
 
 /* One check. `what` says what should hold, `of` in which case. */
 void check(bool holds, const char *what, const char *of);

@@ -35,7 +35,10 @@ static void test_request_ids(void)
         unsigned next = (counter + 1) % 128;
         check(allocated.request_id == counter, "the id is the counter", "request ids");
         check(allocated.counter == (next == 0 ? 1 : next), "the counter steps", "request ids");
+        uint8_t refusal = midici_pe_chunk_count(allocated.request_id, NULL, 0, NULL, 0, 256).refusal;
+        check(refusal == (counter < 128 ? 0 : 1), "an id above 7F is refused by the cutter", "request ids");
     }
+    check(midici_pe_alloc_out_request_id(200).counter == 73, "200 gives 73", "request ids");
 }
 
 /* A list to cut: the refusal, or the count and the first and the last chunk's share of the body. Body bytes may be above

@@ -1,6 +1,6 @@
 /* Tests of the calls on a table: made, cancelled, dropped, polled, listed and counted; the largest table. */
 #include "check.h"
-#include "model.h"
+#include "layout.h"
 
 #include <string.h>
 
@@ -31,10 +31,10 @@ static void test_new(void)
     table_keep(&table);
     midici_pe_answer answer = table_new(&table);
     const uint64_t *numbers = lent_words(&table.lent[NUMBERS]), *index = lent_words(&table.lent[INDEX]);
-    bool empty = numbers[0] == 1;
-    for (size_t i = 1; i < 1 + 38 * PEERS; i++)
-        empty = empty && numbers[i] == ((i - 1) % 38 == 1 ? 0x0FFFFFFF : 0);
-    for (size_t i = 0; i < 4 * PEERS * RECORDS; i++)
+    bool empty = numbers[CLOCK] == 1;
+    for (size_t i = peer_at(0); i < peer_at(PEERS); i++)
+        empty = empty && numbers[i] == ((i - peer_at(0)) % PEER_WORDS == MUID ? 0x0FFFFFFF : 0);
+    for (size_t i = 0; i < SLOTS * PEERS * RECORDS; i++)
         empty = empty && index[i] == 0;
     check(answer.refusal == 0 && answer.value == 0 && answer.count == 0, "the answer", "new");
     check(empty, "the numbers and records of an empty table", "new");
@@ -136,6 +136,21 @@ static void test_poll(void)
     table_free(&table);
 }
 
+/* The clock goes back between two chunks: the order is that of the chunks, and a list whose time lies ahead stays. */
+static void test_poll_back(void)
+{
+    struct table table;
+    const uint64_t peers[] = {1, 2}, ids[] = {11, 21};
+    table_make(&table, PEERS, HEADER_BYTES, TX_BYTES, RECORDS, EXTRA);
+    table_new(&table);
+    open_one(&table, 1, 11, 5000);
+    open_one(&table, 2, 21, 1000);
+    open_one(&table, 1, 12, 20000);
+    check_poll(&table, 10000, 2, peers, ids);
+    check(table_open_list(&table).count == 1, "the list whose time lies ahead stays", "poll");
+    table_free(&table);
+}
+
 static void test_open_list(void)
 {
     struct table table;
@@ -197,11 +212,11 @@ static void test_large_totals(void)
     table_make(&table, 1, HEADER_BYTES, TX_BYTES, RECORDS, 0);
     table_new(&table);
     open_one(&table, 1, 1, 0);
-    uint64_t *slot = lent_words(&table.lent[NUMBERS]) + 1 + 2;
+    uint64_t *slot = lent_words(&table.lent[NUMBERS]) + slot_at(0, 0);
     for (size_t i = 0; i < sizeof cases / sizeof cases[0]; i++) {
-        slot[6] = cases[i].header_len;
-        slot[7] = cases[i].index_len;
-        slot[8] = cases[i].property_bytes;
+        slot[HEADER_LEN] = cases[i].header_len;
+        slot[INDEX_LEN] = cases[i].index_len;
+        slot[PROPERTY_BYTES] = cases[i].property_bytes;
         check(table_memory_stats(&table).active_bytes == cases[i].total, "the bytes of an open list", "large totals");
     }
     table_free(&table);
@@ -229,12 +244,12 @@ static void test_ticks(void)
     table_new(&table);
     const uint64_t *numbers = lent_words(&table.lent[NUMBERS]);
     open_one(&table, 1, 11, 0);
-    check(numbers[0] == 2 && numbers[1 + 2 + 3] == 2, "the first tick is 2", "ticks");
-    lent_words(&table.lent[NUMBERS])[0] = UINT64_MAX - 1;
+    check(numbers[CLOCK] == 2 && numbers[slot_at(0, 0) + LRU_TICK] == 2, "the first tick is 2", "ticks");
+    lent_words(&table.lent[NUMBERS])[CLOCK] = UINT64_MAX - 1;
     open_one(&table, 1, 12, 0);
-    check(numbers[0] == UINT64_MAX && numbers[1 + 2 + 9 + 3] == UINT64_MAX, "the largest tick", "ticks");
+    check(numbers[CLOCK] == UINT64_MAX && numbers[slot_at(0, 1) + LRU_TICK] == UINT64_MAX, "the largest tick", "ticks");
     open_one(&table, 1, 13, 0);
-    check(numbers[0] == UINT64_MAX && numbers[1 + 2 + 18 + 3] == UINT64_MAX, "which holds", "ticks");
+    check(numbers[CLOCK] == UINT64_MAX && numbers[slot_at(0, 2) + LRU_TICK] == UINT64_MAX, "which holds", "ticks");
     table_free(&table);
 }
 
@@ -282,16 +297,49 @@ static void test_full_size(void)
     table_free(&table);
 }
 
+/* As many chunks of one byte as a list can hold, the last one first. With a gap their numbers above the count are every
+ * other one. */
+static void test_most_chunks(bool gap)
+{
+    enum { MOST = MIDICI_PE_FRAGMENT_RECORDS, COUNT = 100 };
+    const char *of = gap ? "most chunks, with gaps" : "most chunks";
+    struct table table;
+    midici_pe_fed answer = {.whole = 0};
+    table_make(&table, 1, 0, MIDICI_PE_TX_BYTES, MOST, 0);
+    table_new(&table);
+    for (unsigned n = MOST; n >= 1; n--) {
+        struct bytes chunk = {.len = 0};
+        check(answer.refusal == 0 && answer.whole == 0, "waiting", of);
+        add_byte(&chunk, 5);
+        add_u14(&chunk, 0);
+        add_u14(&chunk, gap ? COUNT : MOST);
+        add_u14(&chunk, gap && n > COUNT ? 2 * n : n);
+        add_u14(&chunk, 1);
+        add_byte(&chunk, n % 251);
+        answer = table_feed(&table, 7, chunk.at, chunk.len, 0);
+    }
+    check(answer.whole == 1 && answer.body_len == MOST, "whole with the last", of);
+    bool in_order = true;
+    for (unsigned n = 1; n <= MOST; n++)
+        in_order = in_order && table.lent[OUT_BODY].at[n - 1] == n % 251;
+    check(in_order, "joined in the order of numbers", of);
+    check(table_guarded(&table), "nothing is written before a slice", of);
+    table_free(&table);
+}
+
 void test_table_calls(void)
 {
     test_new();
     test_cancel();
     test_drop();
     test_poll();
+    test_poll_back();
     test_open_list();
     test_totals();
     test_large_totals();
     test_reserved_bytes();
     test_ticks();
     test_full_size();
+    test_most_chunks(false);
+    test_most_chunks(true);
 }

@@ -1,7 +1,8 @@
 #!/usr/bin/env python3
 """signatures.py: prints a C file that is an error wherever include/midici_pe.h and the Rattle source disagree.
 
-It reads the exports and their structs from crates/hub and hub_message, the refusals' numbers and the sizes from the crates below it.
+It reads the exports and their structs from crates/hub and hub_message, the refusals' numbers and the sizes from the crates
+below them.
 For each export it prints a pointer of the type that the source says, set to the function that the header declares; for
 each struct, refusal and size an assertion. What a compiler does not see is compared here: the names of parameters, and
 that neither side has a function or a refusal that the other lacks."""
@@ -9,7 +10,7 @@ import pathlib
 import re
 import sys
 
-ROOT = pathlib.Path(__file__).resolve().parent.parent
+ROOT = pathlib.Path(__file__).resolve().parent.parent.parent
 HEADER = ROOT / 'include' / 'midici_pe.h'
 TYPES = {'u8': ('uint8_t', 1), 'u16': ('uint16_t', 2), 'u32': ('uint32_t', 4), 'u64': ('uint64_t', 8), 'usize': ('size_t', 8)}
 STRUCTS = {'Answer': 'midici_pe_answer', 'FedAnswer': 'midici_pe_fed', 'StatsAnswer': 'midici_pe_stats',
@@ -75,20 +76,29 @@ def print_refusals(path, error, prefix):
     return len(cases)
 
 
-def number(path, name):
-    return int(re.search(rf'const {name}: \w+ = ([\d_]+);', source(path)).group(1))
+def number(name):
+    """A constant of the source: a number, or an expression of numbers and such constants. Wherever it stands, it is the same."""
+    every = '\n'.join(source(path.relative_to(ROOT / 'crates')) for path in sorted((ROOT / 'crates').glob('*/src/*.rt')))
+    values = set()
+    for expression in re.findall(rf'\bconst {name}: \w+ = ([^;]+);', every):
+        names = re.sub(r'(?:\w+::)*\b([A-Z]\w*)', lambda m: str(number(m.group(1))), expression)
+        if not re.fullmatch(r'[\d_x\sA-Fa-f+*()-]+', names):
+            wrong(f'{name} is {expression}, which is not read here')
+        values.add(eval(names))
+    if len(values) != 1:
+        wrong(f'the source has no constant {name}, or more than one')
+    return values.pop()
 
 
 def print_sizes():
-    words = number('pe_reassembler/src/table.rt', 'PEER_WORDS')
-    limit = number('pe_chunker/src/lib.rt', 'MAX_SYSEX_MAX')
     peers = 'MIDICI_PE_MAX_PEERS'
     for macro, name in (('HEADER_BYTES', 'MAX_HEADER_BYTES'), ('TX_BYTES', 'MAX_TX_BYTES'),
-                        ('FRAGMENT_RECORDS', 'MAX_FRAGMENT_RECORDS')):
-        check(f"MIDICI_PE_{macro} == {number('pe_slot/src/slot.rt', name)}")
-    check(f'MIDICI_PE_NUMBERS_LEN({peers}) == 1 + {peers} * {words}')
-    check(f"MIDICI_PE_TIMEOUT_MS == {number('pe_reassembler/src/poll.rt', 'INACTIVITY_TIMEOUT_MS')}")
-    check(f'MIDICI_PE_MESSAGE_LEN + 2 == {limit}')
+                        ('FRAGMENT_RECORDS', 'MAX_FRAGMENT_RECORDS'), ('TIMEOUT_MS', 'INACTIVITY_TIMEOUT_MS')):
+        check(f'MIDICI_PE_{macro} == {number(name)}')
+    check(f"MIDICI_PE_NUMBERS_LEN({peers}) == 1 + {peers} * {number('PEER_WORDS')}")
+    check('(size_t)PEER_WORDS == MIDICI_PE_NUMBERS_LEN(1) - MIDICI_PE_NUMBERS_LEN(0)')
+    check(f"SLOT_WORDS == {number('SLOT_WORDS')}")
+    check(f"MIDICI_PE_MESSAGE_LEN + 2 == {number('MAX_SYSEX_MAX')}")
     check('MIDICI_PE_CHUNK_LEN + MIDICI_PE_CI_HEADER_LEN == MIDICI_PE_MESSAGE_LEN')
 
 
@@ -98,9 +108,10 @@ functions = exports(hub)
 
 print('#include <assert.h>')
 print('#include "midici_pe.h"')
+print('#include "layout.h"')
 for function, (result, parameters) in functions.items():
     listed = ', '.join(parameters)
-    print(f'{result} (*const check_{function})({listed}) = {function};')
+    print(f'{result} (*check_{function})({listed}) = {function};')
     if f'{result} {function}({listed});' not in header:
         wrong(f'{HEADER.name} lacks\n{result} {function}({listed});')
 for function in re.findall(r'\b(\w+)\([^()]*\);', header):
