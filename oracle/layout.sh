@@ -11,9 +11,9 @@ src=${MIDICI_SRC:-../shared/docs/src}
 to=${1:-target/oracle}
 mkdir -p "$to/crates" "$to/cut" "$to/probed"
 trap 'rm -f "$to/new"' EXIT
-trap 'exit 129' HUP
 trap 'exit 130' INT
 trap 'exit 143' TERM
+trap 'exit 129' HUP
 
 # listed DIR LIST: writes the list of DIR's files.
 listed() {

@@ -5,8 +5,8 @@ use std::path::{Path, PathBuf};
 use std::{env, fs};
 
 const CRATES: [&str; 3] = ["hub", "hub_message", "codec_exports"];
-/// Where each archive stands, and its name.
-const ARCHIVES: [(&str, &str); 2] = [("target/lib", "midici_pe"), ("target/oracle", "codec_exports")];
+/// Their archives below target/lib: hub_message's exports are in the first.
+const ARCHIVES: [&str; 2] = ["midici_pe", "codec_exports"];
 
 struct Field<'a> {
     name: &'a str,
@@ -29,10 +29,10 @@ fn main() {
     let source: String = CRATES.iter().map(|name| source(&root.join("crates").join(name).join("src"))).collect();
     let written = written(&structs(&source), &functions(&source));
     fs::write(PathBuf::from(env::var("OUT_DIR").unwrap()).join("exports.rs"), written).unwrap();
-    for (place, name) in ARCHIVES {
-        let place = root.join(place);
+    let place = root.join("target/lib");
+    println!("cargo:rustc-link-search=native={}", place.display());
+    for name in ARCHIVES {
         println!("cargo:rerun-if-changed={}", place.join(format!("lib{name}.a")).display());
-        println!("cargo:rustc-link-search=native={}", place.display());
         println!("cargo:rustc-link-lib=static:-bundle={name}");
     }
 }
