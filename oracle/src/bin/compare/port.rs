@@ -66,7 +66,7 @@ fn granted<T: Into<u64>>(values: impl IntoIterator<Item = T>) -> Found<Reply> {
 }
 
 fn count(answer: port::Answer) -> Found<Reply> {
-    reply(answer, |answer| vec![answer.count])
+    reply(answer, |port::Answer { refusal: _, value: _, count }| vec![*count])
 }
 
 fn muid_encode_7bit_le(value: u32) -> [u8; 4] {
@@ -91,7 +91,7 @@ fn header(input: &[u8]) -> port::HeaderFields {
 }
 
 fn header_decode(body: &[u8]) -> Found<Reply> {
-    reply(port::codec_header_decode(body), |answer| fields(answer.header).values())
+    reply(port::codec_header_decode(body), |port::HeaderAnswer { refusal: _, value: _, header }| fields(*header).values())
 }
 
 fn kind_of(kind: u8) -> Found<Reply> {
@@ -110,8 +110,8 @@ fn caps(input: &[u8]) -> port::CapsFields {
 }
 
 fn caps_decode(body: &[u8]) -> Found<Reply> {
-    reply(port::codec_caps_decode(body), |answer| {
-        let port::CapsFields { header, simultaneous_requests, pe_major, pe_minor } = answer.caps;
+    reply(port::codec_caps_decode(body), |port::CapsAnswer { refusal: _, value: _, caps }| {
+        let port::CapsFields { header, simultaneous_requests, pe_major, pe_minor } = *caps;
         let mut values = fields(header).values();
         values.extend([simultaneous_requests, pe_major, pe_minor].map(u64::from));
         values
@@ -128,11 +128,12 @@ fn part(of: &[u8], at: u64, len: u64) -> Found<&[u8]> {
 /// The payload is shown as the output: it stands behind the header.
 fn message_decode(body: &[u8]) -> Found<Outcome> {
     let answer = port::codec_message_decode(body);
-    let payload = part(body, answer.payload_at, answer.payload_len)?.to_vec();
-    if answer.refusal == 0 && answer.payload_at != CI_HEADER_LEN as u64 {
-        return Err(format!("a payload at {}", answer.payload_at));
+    let port::MessageAnswer { refusal, value: _, header, payload_at, payload_len } = answer;
+    let payload = part(body, payload_at, payload_len)?.to_vec();
+    if refusal == 0 && payload_at != CI_HEADER_LEN as u64 {
+        return Err(format!("a payload at {payload_at}"));
     }
-    Ok(Outcome { reply: reply(answer, |answer| fields(answer.header).values())?, out: payload })
+    Ok(Outcome { reply: reply(answer, |_| fields(header).values())?, out: payload })
 }
 
 fn alloc_out_request_id(counter: u8) -> Found<Reply> {
@@ -140,17 +141,15 @@ fn alloc_out_request_id(counter: u8) -> Found<Reply> {
     granted([request_id, counter])
 }
 
-/// Header and property are shown as the output.
+/// Header and property are shown as the output: the header stands at 3.
 fn chunk_decode(data: &[u8]) -> Found<Outcome> {
     let answer = port::codec_decode_fields(data);
-    let is_read = answer.refusal == 0;
-    let header = if is_read { part(data, 3, answer.header_len)? } else { &[] };
-    let out = [header, part(data, answer.property_at, answer.property_len)?].concat();
-    let reply = reply(answer, |answer| {
-        let port::ChunkAnswer { request_id, header_len, num_chunks, chunk_num, property_at, property_len, .. } = *answer;
-        vec![request_id.into(), header_len, num_chunks.into(), chunk_num.into(), property_at, property_len]
-    })?;
-    Ok(Outcome { reply, out })
+    let port::ChunkAnswer { refusal, value: _, request_id, header_len, num_chunks, chunk_num, property_at, property_len } =
+        answer;
+    let header = if refusal == 0 { part(data, 3, header_len)? } else { &[] };
+    let out = [header, part(data, property_at, property_len)?].concat();
+    let values = |_: &_| vec![request_id.into(), header_len, num_chunks.into(), chunk_num.into(), property_at, property_len];
+    Ok(Outcome { reply: reply(answer, values)?, out })
 }
 
 fn chunk_encode(chunk: Chunk, out: &mut [u8]) -> Found<Reply> {
