@@ -1,6 +1,6 @@
 -- The questions of a cut: their answers by the code's tests, and what a grant tells.
 -- Assumes nothing.
-use Prim.Native.Nat.{ℕ, _+_, _<_, _≤_}
+use Prim.Native.Nat.{ℕ, _<_, _≤_}
 use mathlib.Core.Bool.{Bool, true, false}
 use mathlib.Core.List.{List}
 use mathlib.Core.Path.{_≡_, refl, _∙_}
@@ -10,9 +10,9 @@ use lib.Dec.{leb}
 use lib.ListN.{length}
 use Rattle.seven_bit.specs.Reply.{Reply, granted, refused, _else_then_, andThen}
 use Rattle.seven_bit.specs.SevenBit.{isSevenBit}
-use Rattle.seven_bit.proofs.ReplyLaws.{asked, then-else}
-use Rattle.pe_chunker.specs.Cut.{budget, laterCapacity, bodyPieces, askCut}
-use Rattle.pe_chunker.proofs.CutLaws.{later-is, later-between}
+use Rattle.seven_bit.proofs.ReplyLaws.{asked, first-granted as granted-first, then-else}
+use Rattle.pe_chunker.specs.Cut.{laterCapacity, bodyPieces, askFirst, askCut}
+use Rattle.pe_chunker.proofs.CutLaws.{later-between, first-granted, first-refused, first-told}
 
 -- the refusals, each past the questions before it
 pub cut-id : {A : Type 0} (id : ℕ) (header body : List ℕ) (limit : ℕ) (next : Reply A) → 127 < id → askCut id header body limit next ≡ refused 1 0
@@ -32,9 +32,7 @@ cut-long id header body limit next i s h = rw (le-leb _ _ i, s, lt-leb _ _ h)
 pub cut-wide : {A : Type 0} (id : ℕ) (header body : List ℕ) (limit : ℕ) (next : Reply A) → id ≤ 127 → isSevenBit header ≡ true → length header ≤ 16383
     → laterCapacity limit < length header → askCut id header body limit next ≡ refused 4 0
 unfolding askCut
-cut-wide id header body limit next i s h w =
-    let l : budget limit < length header + 9 = omega (arith, later-is limit) in
-    rw (le-leb _ _ i, s, le-leb _ _ h, lt-leb _ _ l)
+cut-wide id header body limit next i s h w = rw (le-leb _ _ i, s, le-leb _ _ h, first-refused limit (length header) w)
 
 -- what is known where no question was answered no
 pub record Cut (id : ℕ) (header body : List ℕ) (limit : ℕ) : Type 0 where
@@ -50,8 +48,7 @@ unfolding askCut
 cut-many id header body limit next i s h m =
     let b = later-between limit in
     let t : length header ≤ 16383 = omega arith in
-    let l : length header + 9 ≤ budget limit = omega (arith, later-is limit) in
-    rw (le-leb _ _ i, s, le-leb _ _ t, le-leb _ _ l, lt-leb _ _ m)
+    rw (le-leb _ _ i, s, le-leb _ _ t, first-granted limit (length header) h, lt-leb _ _ m)
 
 pub cut-asked : {A : Type 0} (id : ℕ) (header body : List ℕ) (limit : ℕ) (next : Reply A) → Cut id header body limit → askCut id header body limit next ≡ next
 unfolding askCut
@@ -59,8 +56,7 @@ cut-asked id header body limit next c =
     let b = later-between limit in
     let h = c .fits in
     let t : length header ≤ 16383 = omega arith in
-    let l : length header + 9 ≤ budget limit = omega (arith, later-is limit) in
-    rw (le-leb _ _ (c .low), c .seven, le-leb _ _ t, le-leb _ _ l, le-leb _ _ (c .few))
+    rw (le-leb _ _ (c .low), c .seven, le-leb _ _ t, first-granted limit (length header) h, le-leb _ _ (c .few))
 
 -- what a grant tells
 pub cut-told : {A : Type 0} (id : ℕ) (header body : List ℕ) (limit : ℕ) (next : Reply A) (a : A) → askCut id header body limit next ≡ granted a
@@ -70,10 +66,15 @@ cut-told id header body limit next a q =
     let p1 = asked (leb id 127) 1 _ a q in
     let p2 = asked (isSevenBit header) 1 _ a (p1 .1) in
     let p3 = asked (leb (length header) 16383) 4 _ a (p2 .1) in
-    let p4 = asked (leb (length header + 9) (budget limit)) 4 _ a (p3 .1) in
-    let p5 = asked (leb (length (bodyPieces limit (length header) body)) 16383) 5 next a (p4 .1) in
-    let l : length header + 9 ≤ budget limit = leb-true _ _ (p4 .0) in
-    (record { low = leb-true _ _ (p1 .0); seven = p2 .0; fits = omega (arith, later-is limit); few = leb-true _ _ (p5 .0) }, p5 .1)
+    let p4 = granted-first (askFirst limit (length header)) _ a (p3 .1) in
+    let p5 = asked (leb (length (bodyPieces limit (length header) body)) 16383) 5 next a (p4 .2) in
+    (record { low = leb-true _ _ (p1 .0); seven = p2 .0; fits = first-told limit (length header) (p4 .0) (p4 .1); few = leb-true _ _ (p5 .0) }, p5 .1)
+
+-- what follows an answer may be put after it
+then-first : {A B C : Type 0} (q : Reply C) (g : C → Reply A) (g′ : C → Reply B) (f : A → Reply B) → ((c : C) → g′ c ≡ andThen (g c) f)
+    → andThen q g′ ≡ andThen (andThen q g) f
+then-first (granted c) g g′ f e = e c
+then-first (refused number value) g g′ f e = refl
 
 -- what follows the questions may be put after them
 then-cut : {A B : Type 0} (id : ℕ) (header body : List ℕ) (limit : ℕ) (r : Reply A) (r′ : Reply B) (f : A → Reply B) → r′ ≡ andThen r f
@@ -83,8 +84,8 @@ then-cut id header body limit r r′ f e =
     then-else (leb id 127) 1 _ _ f
     (then-else (isSevenBit header) 1 _ _ f
     (then-else (leb (length header) 16383) 4 _ _ f
-    (then-else (leb (length header + 9) (budget limit)) 4 _ _ f
-    (then-else (leb (length (bodyPieces limit (length header) body)) 16383) 5 r r′ f e))))
+    (then-first (askFirst limit (length header)) _ _ f
+    (λ _. then-else (leb (length (bodyPieces limit (length header) body)) 16383) 5 r r′ f e))))
 
 -- a refusal by the questions is the same whatever follows them
 pub cut-refused : {A B : Type 0} (id : ℕ) (header body : List ℕ) (limit : ℕ) (a : A) (next : Reply B) (number value : ℕ)

@@ -12,7 +12,7 @@ use lib.ListN.{length, getD, drop, length-drop, take-append-drop}
 use lib.Seq.{take-nil, drop-nil, drop-drop}
 use Rattle.seven_bit.specs.Parts.{part, joined}
 use Rattle.seven_bit.specs.Reply.{granted, refused}
-use Rattle.seven_bit.proofs.ReplyLaws.{both}
+use Rattle.seven_bit.proofs.ReplyLaws.{both, asked}
 use Rattle.pe_chunker.specs.Cut.{clamped, budget, laterCapacity, firstCapacity, askFirst, cutUp}
 
 -- the clamped limit, by the code's tests
@@ -69,6 +69,12 @@ unfolding askFirst
 first-refused limit header-len h =
     let l : budget limit < header-len + 9 = omega (arith, later-is limit) in
     rw (lt-leb _ _ l)
+
+pub first-told : (limit header-len n : ℕ) → askFirst limit header-len ≡ granted n → header-len ≤ laterCapacity limit
+unfolding askFirst
+first-told limit header-len n q =
+    let l : header-len + 9 ≤ budget limit = leb-true _ _ (asked (leb (header-len + 9) (budget limit)) 4 _ n q .0) in
+    omega (arith, later-is limit)
 
 -- the pieces joined are the list
 pub joined-cut : {A : Type 0} (k fuel : ℕ) (xs : List A) → 0 < k → length xs ≤ fuel → joined (cutUp k fuel xs) ≡ xs

@@ -108,6 +108,16 @@ piece-at limit header-len i k m from to body q n h e f =
 pub part-ends : (header-len i k m n from to : ℕ) → k ≡ i + 1 → from ≡ min (i * m - header-len) n → to ≡ min (k * m - header-len) n → (from ≤ to) × (to ≤ n)
 part-ends header-len i k m n from to e f t = let o : k * m ≡ i * m + m = next-mul i k m e in (omega arith, omega arith)
 
+-- and how long it is
+pub piece-length : (limit header-len i k m : ℕ) (body : List ℕ) → m ≡ laterCapacity limit → k ≡ i + 1 → header-len ≤ laterCapacity limit
+    → length (getD (bodyPieces limit header-len body) i []) ≡ min (k * m - header-len) (length body) - min (i * m - header-len) (length body)
+piece-length limit header-len i k m body q n h =
+    let from = min (i * m - header-len) (length body) in
+    let to = min (k * m - header-len) (length body) in
+    let e = part-ends header-len i k m (length body) from to n refl refl in
+    ap length (sym (piece-at limit header-len i k m from to body q n h refl refl))
+    ∙ length-part from (to - from) body (omega arith)
+
 -- how long a piece can be
 part-short : (a b : ℕ) (xs : List ℕ) → length (part a b xs) ≤ b
 part-short a b xs = omega (arith, length-take b (drop a xs))

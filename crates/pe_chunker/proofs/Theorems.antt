@@ -1,9 +1,9 @@
 -- What is true of every cut: the pieces are the body, their number, the size of a message, and what a chunk holds.
 -- Assumes nothing.
-use Prim.Native.Nat.{ℕ, _+_, _-_, _/_, _<_, _≤_}
+use Prim.Native.Nat.{ℕ, _+_, _-_, _*_, _/_, min, _<_, _≤_}
 use mathlib.Core.Bool.{true}
 use mathlib.Core.List.{List, [], _∷_, _++_}
-use mathlib.Core.Path.{_≡_, sym, ap, _∙_}
+use mathlib.Core.Path.{_≡_, refl, sym, ap, _∙_}
 use native.Mathlib.Omega.{arith}
 use lib.ListN.{length, length-append}
 use lib.Seq.{take-nil}
@@ -18,7 +18,7 @@ use Rattle.pe_frame.proofs.RoundTrip.{fields, written-then-read}
 use Rattle.pe_frame.proofs.ChunkLaws.{InRange, chunk-length, write-granted}
 use Rattle.pe_chunker.specs.Cut.{clamped, budget, laterCapacity, firstCapacity, cutUp, bodyPieces, chunkAt, cutCount, cutChunk}
 use Rattle.pe_chunker.proofs.CutLaws.{budget-is, later-is, first-is}
-use Rattle.pe_chunker.proofs.PieceLaws.{joined-pieces, pieces-count}
+use Rattle.pe_chunker.proofs.PieceLaws.{joined-pieces, pieces-count, piece-length}
 use Rattle.pe_chunker.proofs.AskLaws.{cut-asked}
 use Rattle.pe_chunker.proofs.ChunkLaws.{count-told, chunk-short, chunk-full, chunk-in-range, chunk-written, chunk-told}
 
@@ -84,6 +84,15 @@ fields-in-range id header body limit count k q one l =
     let t = count-told id header body limit count q in
     let e = t .1 in
     chunk-in-range id header body limit k (t .0) one (omega arith)
+
+-- How many bytes of the body chunk k carries: what k chunks hold beside the header, without what those before it hold.
+pub property-length : (id : ℕ) (header body : List ℕ) (limit count k : ℕ) → cutCount id header body limit ≡ granted count → 1 ≤ k
+    → length (chunkAt id header body limit k .property)
+    ≡ min (k * laterCapacity limit - length header) (length body) - min ((k - 1) * laterCapacity limit - length header) (length body)
+unfolding chunkAt
+property-length id header body limit count k q one =
+    let t = count-told id header body limit count q in
+    piece-length limit (length header) (k - 1) k (laterCapacity limit) body refl (omega arith) (t .0 .fits)
 
 -- A buffer of the budget is long enough for every chunk of a cut.
 pub budget-is-room : (id : ℕ) (header body : List ℕ) (limit count k room : ℕ) → cutCount id header body limit ≡ granted count → 1 ≤ k → k ≤ count

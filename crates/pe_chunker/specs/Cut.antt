@@ -5,7 +5,7 @@ use mathlib.Core.Bool.{cond, _&&_}
 use mathlib.Core.List.{List, [], _∷_}
 use lib.Dec.{leb, ltb, eqb}
 use lib.ListN.{length, getD, take, drop}
-use Rattle.seven_bit.specs.Reply.{Reply, granted, _else_then_}
+use Rattle.seven_bit.specs.Reply.{Reply, granted, _else_then_, andThen}
 use Rattle.seven_bit.specs.SevenBit.{isSevenBit}
 use Rattle.pe_wire.specs.Errors.{peRefused}
 use Rattle.pe_frame.specs.Chunk.{Chunk}
@@ -57,15 +57,16 @@ chunkAt request-id header body limit k =
       property = getD (bodyPieces limit (length header) body) (k - 1) [];
     }
 
--- "Request id? 1. Header bytes? 1. Header up to 16,383? 4. Header + 9 within budget? 4. At most 16,383 frames? 5."
+-- "Request id? 1. Header bytes? 1. Header up to 16,383? 4. Header + 9 within budget? 4. At most 16,383 frames? 5.": the fourth is
+-- `askFirst`'s.
 unfoldable pub askCut : {A : Type 0} → ℕ → List ℕ → List ℕ → ℕ → Reply A → Reply A
 askCut request-id header body limit next =
     leb request-id 0x7F else 1 then
     isSevenBit header else 1 then
     leb (length header) 16383 else 4 then
-    leb (length header + 9) (budget limit) else 4 then
+    andThen (askFirst limit (length header)) (λ _.
     leb (length (bodyPieces limit (length header) body)) 16383 else 5 then
-    next
+    next)
 
 -- How many chunks there are.
 unfoldable pub cutCount : ℕ → List ℕ → List ℕ → ℕ → Reply ℕ

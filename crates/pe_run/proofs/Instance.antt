@@ -17,7 +17,7 @@ use Rattle.pe_frame.specs.Write.{chunkBytes, chunkLen, headerFor, writeWhole}
 use Rattle.pe_frame.proofs.ChunkLaws.{InRange, ask-yes}
 use Rattle.pe_frame.proofs.RoundTrip.{bytes-read, bytes-chunk, whole-then-read, read-bytes-are, fields}
 use Rattle.pe_slot.specs.Slot.{held, allHeld, bodyLen, isWhole, eventOf, headerFits, sameHeader, eqList, headerAgrees, isNone, newHeader, countAgrees, newCount, afterChunk, passed, judge}
-use Rattle.pe_chunker.specs.Cut.{clamped, budget, laterCapacity, firstCapacity, cutUp, bodyPieces, chunkAt, askCut, cutCount, cutChunk}
+use Rattle.pe_chunker.specs.Cut.{clamped, budget, laterCapacity, firstCapacity, askFirst, cutUp, bodyPieces, chunkAt, askCut, cutCount, cutChunk}
 use Rattle.pe_chunker.proofs.CutLaws.{budget-between}
 use Rattle.pe_chunker.proofs.Theorems.{fields-in-range, budget-is-room}
 use Rattle.pe_reassembler.specs.Open.{Perm, swap}
@@ -67,7 +67,7 @@ abbrev two : Chunk
 two = record { request-id = 5; header = []; num-chunks = 2; chunk-num = 2; property = body }
 
 counted : cutCount 5 header body 128 ≡ granted 2
-unfolding cutCount askCut isSevenBit bodyPieces cutUp firstCapacity laterCapacity budget clamped
+unfolding cutCount askCut askFirst isSevenBit bodyPieces cutUp firstCapacity laterCapacity budget clamped
 counted = refl
 
 first-chunk : chunkAt 5 header body 128 1 ≡ one

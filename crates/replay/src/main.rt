@@ -1,6 +1,9 @@
 // Plays a fixed list of the original's answers: records of a function's byte, the length of its input in two bytes, low one
 // first, and the input. For each it prints the port's answer on a line: the values, or r with the refusal's number and value;
-// then each byte of the lent output, behind a colon. oracle/src/op.rs says how an input reads; `make vectors` writes the list.
+// then each byte of the lent output, behind a colon. Document 01's examples come first, those of the table among them. oracle/src/op.rs
+// says how a function's input reads, table.rt how a table call's; `make vectors` writes the list.
+mod table;
+
 use codec_exports::answer::CapsFields;
 use codec_exports::answer::HeaderFields;
 use hub::answer::Answer;
@@ -72,6 +75,18 @@ const SPLIT_CHUNK: u8 = 31;
 
 const WHOLE_ENCODE: u8 = 32;
 
+const TABLE_NEW: u8 = 64;
+
+const TABLE_FEED: u8 = 65;
+
+const TABLE_CANCEL: u8 = 66;
+
+const TABLE_DROP_PEER: u8 = 67;
+
+const TABLE_POLL: u8 = 68;
+
+const TABLE_MEMORY_STATS: u8 = 69;
+
 // Bytes past the end are 0.
 fn u8_at(s: &[u8], at: usize) -> u8 {
     if at < s.len() { s[at] } else { 0 }
@@ -87,6 +102,12 @@ fn u32_at(s: &[u8], at: usize) -> u32
     requires { ⌜ at ≤ 32 ⌝ }
 {
     u16_at(s, at) as u32 + 65_536 * (u16_at(s, at + 2) as u32)
+}
+
+fn u64_at(s: &[u8], at: usize) -> u64
+    requires { ⌜ at ≤ 16 ⌝ }
+{
+    u32_at(s, at) as u64 + 4_294_967_296 * (u32_at(s, at + 4) as u64)
 }
 
 fn from(s: &[u8], at: usize) -> &[u8] {
@@ -356,8 +377,7 @@ fn play_chunk(s: &[u8]) {
 }
 
 fn first_capacity(s: &[u8]) -> Answer {
-    let header_len = u32_at(s, 4) as u64 + 4_294_967_296 * (u32_at(s, 8) as u64);
-    codec_exports::pe::codec_first_chunk_property_capacity(u32_at(s, 0), header_len as usize)
+    codec_exports::pe::codec_first_chunk_property_capacity(u32_at(s, 0), u64_at(s, 4) as usize)
 }
 
 fn chunk_count(s: &[u8]) -> Answer {
@@ -415,7 +435,8 @@ fn play_reader(op: u8, s: &[u8]) {
     print_out(b"");
 }
 
-fn play(op: u8, s: &[u8]) {
+// The functions that need no memory but an output.
+fn play_function(op: u8, s: &[u8]) {
     match op {
         WRITE_U14_LE7
         | HEADER_ENCODE
@@ -433,8 +454,34 @@ fn play(op: u8, s: &[u8]) {
     }
 }
 
+fn play(
+    op: u8,
+    s: &[u8],
+    numbers: &mut [u64],
+    index: &mut [u64],
+    headers: &mut [u8],
+    arenas: &mut [u8],
+) {
+    match op {
+        TABLE_NEW => table::new(numbers, index, headers, arenas),
+        TABLE_FEED => table::feed(s, numbers, index, headers, arenas),
+        TABLE_CANCEL => table::cancel(s, numbers),
+        TABLE_DROP_PEER => table::drop_peer(s, numbers),
+        TABLE_POLL => table::poll(s, numbers),
+        TABLE_MEMORY_STATS => table::memory_stats(numbers),
+        _ => play_function(op, s),
+    }
+}
+
 // Plays the record at `at`, and returns the place after it, or the end where it is cut off.
-fn record(s: &[u8], at: usize) -> usize
+fn record(
+    s: &[u8],
+    at: usize,
+    numbers: &mut [u64],
+    index: &mut [u64],
+    headers: &mut [u8],
+    arenas: &mut [u8],
+) -> usize
     requires { ⌜ at < length (now s) ⌝ }
     ensures { λ r. ⌜ at < r ⌝ }
     ensures { λ r. ⌜ r ≤ length (now (s .entry)) ⌝ }
@@ -446,19 +493,30 @@ fn record(s: &[u8], at: usize) -> usize
     }
     let body = start + 2;
     let end = body + n;
-    play(s[at], &s[body..end]);
+    play(s[at], &s[body..end], numbers, index, headers, arenas);
     end
 }
 
-fn replay(s: &[u8]) {
+fn replay(s: &[u8], numbers: &mut [u64], index: &mut [u64], headers: &mut [u8], arenas: &mut [u8]) {
     let mut at = 0;
     while at < s.len() {
-        at = record(s, at);
+        at = record(s, at, numbers, index, headers, arenas);
     }
 }
 
+// The table has one peer, at full size.
 fn main() {
     let mut input = [0u8; 65536];
+    let mut numbers = [0u64; 39];
+    let mut index = [0u64; 8192];
+    let mut headers = [0u8; 16384];
+    let mut arenas = [0u8; 262144];
     let n = io::read_full(0, &mut input);
-    replay(&input[..n]);
+    replay(
+        &input[..n],
+        &mut numbers,
+        &mut index,
+        &mut headers,
+        &mut arenas,
+    );
 }

@@ -1,6 +1,10 @@
 //! Writes the list that the program `replay` plays: `vectors DIR` writes DIR/stdin, records of a function's byte, the
 //! length of its input in two bytes, low one first, and the input; and DIR/stdout, the original's answer to each on a line.
+//! Document 01's examples come first, then random cases of each function, then random runs on a table.
+mod table;
+
 use oracle::case::Case;
+use oracle::input::List;
 use oracle::op::Op;
 use oracle::outcome::{Answer, Outcome};
 use oracle::random::Rng;
@@ -12,22 +16,27 @@ const FILL: u8 = 0xEE;
 const LONGEST: usize = 120;
 const ROOM: usize = 256;
 
+/// How many bytes of the list the program takes.
+const LIST: usize = 65_536;
+
 /// How many cases there are of each answer of a function, and how many are tried to find them.
 const OF_EACH: usize = 6;
 const TRIES: usize = 20_000;
 
-/// The refusals of the functions that are compared, but for 5: it takes a body of 1.7 million bytes.
+/// The refusals of the functions that are compared, and 6 and 7 of the table; but for 5: it takes a body of 65,537 bytes, or
+/// 2,049 chunks.
 fn refusals() -> BTreeSet<u8> {
-    Op::ALL.iter().flat_map(|(_, export)| export.refusals).copied().filter(|number| *number != 5).collect()
+    let functions = Op::ALL.iter().flat_map(|(_, export)| export.refusals).copied();
+    functions.chain([6, 7]).filter(|number| *number != 5).collect()
 }
 
 fn answer(case: &Case) -> Outcome {
     original::answer(case, case.lent(|_| FILL))
 }
 
-/// Document 01's examples of these functions, as far as they are short, and the ends of the counter and of the requests.
+/// Document 01's examples of these functions, and the ends of the counter and of the requests.
 fn examples() -> Vec<Case> {
-    let examples: [(Op, &[u8]); 26] = [
+    let examples: &[(Op, &[u8])] = &[
         (Op::ReadU14Le7, &[0x68, 0x07]),
         (Op::ReadU14Le7, &[0x80, 0x00]),
         (Op::WriteU14Le7, &[2, 0, 0xFF, 0x3F]),
@@ -50,12 +59,38 @@ fn examples() -> Vec<Case> {
         (Op::ChunkDecode, &[0x05, 0x01, 0x00, 0x7B, 0x02, 0x00, 0x02, 0x00, 0x00, 0x00]),
         (Op::ChunkDecode, &[0x05, 0x00, 0x00, 0x01, 0x00, 0x00, 0x00, 0x01, 0x00, 0xFF]),
         (Op::LaterCapacity, &[0, 0, 0, 0]),
+        (Op::LaterCapacity, &[128, 0, 0, 0]),
+        (Op::LaterCapacity, &[0x00, 0x10, 0, 0]),
         (Op::LaterCapacity, &[0x88, 0x13, 0, 0]),
         (Op::FirstCapacity, &[128, 0, 0, 0, 104]),
         (Op::FirstCapacity, &[128, 0, 0, 0, 105]),
-        (Op::ChunkCount, &[5, 0, 1, 0, 0, 2, 0, 0x7B, 0x7D]),
     ];
-    examples.iter().map(|(op, input)| Case { op: *op, input: input.to_vec() }).collect()
+    let short = examples.iter().map(|(op, input)| Case { op: *op, input: input.to_vec() });
+    let cuts = [cut(256, &[0x20; 48], &[0x41; 1_000]), cut(256, b"{}", b""), cut(128, &[0x20; 104], &[0x41; 200])];
+    let too_wide = Case { op: Op::ChunkCount, input: list(128, &[0x20; 105], &[0x41; 200]) };
+    short.chain(cuts.into_iter().flatten()).chain([too_wide]).collect()
+}
+
+fn list(max_sysex: u32, header: &[u8], body: &[u8]) -> Vec<u8> {
+    List { request_id: 5, max_sysex, header, body }.bytes()
+}
+
+/// A list that is cut: how many chunks there are, and each of them, written and then read; and the number after the last.
+fn cut(max_sysex: u32, header: &[u8], body: &[u8]) -> Vec<Case> {
+    let list = list(max_sysex, header, body);
+    let count = Case { op: Op::ChunkCount, input: list.clone() };
+    let chunks = answer(&count).reply.expect("the list is cut")[0] as u16;
+    let split = |k: u16| Case { op: Op::SplitChunk, input: [&(ROOM as u16).to_le_bytes()[..], &k.to_le_bytes(), &list].concat() };
+    let read = |split: &Case| {
+        let Outcome { reply, out } = answer(split);
+        Case { op: Op::ChunkDecode, input: out[..reply.expect("a chunk is written")[0] as usize].to_vec() }
+    };
+    let written = (1..=chunks).map(split);
+    let both = written.flat_map(|split| {
+        let read = read(&split);
+        [split, read]
+    });
+    [count].into_iter().chain(both).chain([split(chunks + 1)]).collect()
 }
 
 /// Random cases of a function, with each of its answers as often as `OF_EACH` says.
@@ -74,17 +109,32 @@ fn sample(op: Op) -> Vec<Case> {
     .collect()
 }
 
-fn record(case: &Case) -> Vec<u8> {
-    let length = (case.input.len() as u16).to_le_bytes();
-    [&[case.op.code()], &length[..], &case.input].concat()
+fn record(code: u8, input: &[u8]) -> Vec<u8> {
+    let length = (input.len() as u16).to_le_bytes();
+    [&[code], &length[..], input].concat()
+}
+
+/// The records and the answers of a list of cases, and of a list of calls on a table.
+type Played = (Vec<u8>, Vec<Outcome>);
+
+fn cases(cases: &[Case]) -> Played {
+    (cases.iter().flat_map(|case| record(case.op.code(), &case.input)).collect(), cases.iter().map(answer).collect())
+}
+
+fn calls(calls: &[table::Call]) -> Played {
+    let records = calls.iter().map(table::Call::record);
+    (records.flat_map(|(code, input)| record(code, &input)).collect(), table::answers(calls))
 }
 
 fn main() -> std::io::Result<()> {
     let dir = std::env::args().nth(1).expect("usage: vectors DIR");
-    let cases: Vec<Case> = examples().into_iter().chain(Op::ALL.into_iter().flat_map(|(op, _)| sample(op))).collect();
-    let answers: Vec<Outcome> = cases.iter().map(answer).collect();
+    let samples: Vec<Case> = Op::ALL.into_iter().flat_map(|(op, _)| sample(op)).collect();
+    let parts = [cases(&examples()), calls(&table::examples()), cases(&samples), calls(&table::runs())];
+    let (records, answers): (Vec<_>, Vec<_>) = parts.into_iter().unzip();
+    let (list, answers) = (records.concat(), answers.into_iter().flatten().collect::<Vec<Outcome>>());
     let refused: BTreeSet<u8> = answers.iter().filter_map(|answer| answer.reply.as_ref().err()).map(|r| r.number).collect();
     assert_eq!(refused, refusals(), "every refusal is in the list");
-    std::fs::write(format!("{dir}/stdin"), cases.iter().flat_map(record).collect::<Vec<u8>>())?;
+    assert!(list.len() <= LIST, "the list has {} bytes", list.len());
+    std::fs::write(format!("{dir}/stdin"), list)?;
     std::fs::write(format!("{dir}/stdout"), answers.iter().map(|answer| format!("{answer}\n")).collect::<String>())
 }
