@@ -2,3 +2,4 @@
 pub mod answer;
 pub mod ci;
 pub mod pe;
+pub mod slot;

@@ -13,7 +13,7 @@ use lib.Seq.{getD-set-same}
 use Rattle.seven_bit.specs.Parts.{splice}
 use Rattle.seven_bit.proofs.PartLaws.{part-splice}
 use Rattle.seven_bit.proofs.ReplyLaws.{both, and-told}
-use Rattle.pe_slot.specs.Feed.{After}
+use Rattle.pe_slot.specs.Feed.{SlotLeft}
 use Rattle.pe_reassembler.specs.declared.shape.Shape.{Shape}
 use Rattle.pe_reassembler.specs.Feed.{Memory, nextTick, bind, wordsPart, roomPart, lifted}
 use Rattle.pe_reassembler.specs.Table.{hasRooms, numbersLen, roomsLen, peerAt, slotAt, roomAt, isBound, boundTo}
@@ -42,7 +42,7 @@ rooms-told shape numbers index headers arenas e =
     }
 
 -- what a slot left fits in its place
-pub record Sized (shape : Shape) (a : After) : Type 0 where
+pub record Sized (shape : Shape) (a : SlotLeft) : Type 0 where
   pub nine : length (a .words) ≡ 9
   pub records : length (a .index) ≡ shape .«fragment_records»
   pub header-bytes : length (a .header) ≡ shape .«header_bytes»
@@ -184,7 +184,7 @@ module _ (n p s : ℕ) (numbers words : List ℕ) (tick peer : ℕ) (h : 1 + 38 
   stored-peer-other q d = peer-by numbers stored q (head-other q d)
 
 -- all that is lent, after slot s of record p
-module _ (shape : Shape) (m : Memory) (peer p s : ℕ) (a : After) (h : hasRooms shape (m .numbers) (m .index) (m .headers) (m .arenas) ≡ true) (f : Sized shape a)
+module _ (shape : Shape) (m : Memory) (peer p s : ℕ) (a : SlotLeft) (h : hasRooms shape (m .numbers) (m .index) (m .headers) (m .arenas) ≡ true) (f : Sized shape a)
     (k : p < shape .«max_peers») (l : s < 4) where
   abbrev left : Memory
   left = lifted shape m peer p s a .memory

@@ -14,7 +14,7 @@ use lib.ListN.{length, getD, set}
 use lib.Seq.{getD-set-same}
 use Rattle.seven_bit.proofs.PartLaws.{part-splice}
 use Rattle.seven_bit.proofs.ReplyLaws.{both}
-use Rattle.pe_slot.specs.Feed.{closed}
+use Rattle.pe_slot.specs.Feed.{closedSlot}
 use Rattle.pe_slot.specs.Memory.{slotOf, wordsOf}
 use Rattle.pe_reassembler.specs.declared.shape.Shape.{Shape}
 use Rattle.pe_reassembler.specs.Calls.{closeAt, closeOpen, dropAt}
@@ -51,7 +51,7 @@ peers-told xs ys k q = peer-by xs ys q (k .heads q)
 
 -- ---- a slot closed in its place
 abbrev shutWords : List ℕ → List ℕ
-shutWords w = wordsOf (closed (slotOf w))
+shutWords w = wordsOf (closedSlot (slotOf w))
 
 module _ (p s : ℕ) (numbers : List ℕ) (h : slotAt p s + 9 ≤ length numbers) where
   close-only : OnlyAt (slotAt p s) 9 numbers (closeAt p s numbers)
@@ -170,7 +170,7 @@ module _ (shape : Shape) (numbers : List ℕ) (h : numbersLen shape ≤ length n
     slot-in : slotAt p s + 9 ≤ length numbers
     slot-in = omega arith
 
-    pub close-words : wordsPart (closeAt p s numbers) p s ≡ wordsOf (closed (slotOf (wordsPart numbers p s)))
+    pub close-words : wordsPart (closeAt p s numbers) p s ≡ wordsOf (closedSlot (slotOf (wordsPart numbers p s)))
     close-words = close-own p s numbers slot-in
 
     pub close-words-other : (q t : ℕ) → q < shape .«max_peers» → t < 4 → (q ≡ p → t ≡ s → ⊥) → wordsPart (closeAt p s numbers) q t ≡ wordsPart numbers q t
@@ -227,7 +227,7 @@ module _ (shape : Shape) (numbers : List ℕ) (h : numbersLen shape ≤ length n
     due-shut = shut-due now-ms (shape .«max_peers») (4 * shape .«max_peers») 0 0 numbers (omega arith) (omega arith) h
 
     pub due-words : (q t : ℕ) → q < shape .«max_peers» → t < 4
-        → wordsPart polled q t ≡ cond (isDue numbers now-ms q t) (wordsOf (closed (slotOf (wordsPart numbers q t)))) (wordsPart numbers q t)
+        → wordsPart polled q t ≡ cond (isDue numbers now-ms q t) (wordsOf (closedSlot (slotOf (wordsPart numbers q t)))) (wordsPart numbers q t)
     due-words q t b g = rw (due-of numbers now-ms q t) (due-shut .own q t g (omega arith) (omega arith))
 
     pub due-peer : (q : ℕ) → (isBound polled q ≡ isBound numbers q) × (getD polled (peerAt q + 1) 0 ≡ getD numbers (peerAt q + 1) 0)
@@ -275,7 +275,7 @@ module _ (shape : Shape) (numbers : List ℕ) (h : numbersLen shape ≤ length n
   four-long = let e = four .peers .long in omega arith
 
   pub drop-words : (t : ℕ) → t < 4
-      → wordsPart dropped p t ≡ cond (isActive numbers p t) (wordsOf (closed (slotOf (wordsPart numbers p t)))) (wordsPart numbers p t)
+      → wordsPart dropped p t ≡ cond (isActive numbers p t) (wordsOf (closedSlot (slotOf (wordsPart numbers p t)))) (wordsPart numbers p t)
   drop-words t g = unbind-words shape n₄ four-long p k p t k g ∙ rw (active-of numbers p t) (four .own p t g (omega arith) (omega arith))
 
   pub drop-words-other : (q t : ℕ) → q < shape .«max_peers» → t < 4 → (q ≡ p → ⊥) → wordsPart dropped q t ≡ wordsPart numbers q t

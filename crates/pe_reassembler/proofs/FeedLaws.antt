@@ -24,7 +24,7 @@ use Rattle.pe_frame.proofs.RoundTrip.{read-told}
 use Rattle.pe_wire.proofs.RoundTrip.{read-small}
 use Rattle.pe_slot.specs.Slot.{Slot, Verdict, stays, closing, _otherwise_then_, storing, taking, held, bodyLen, headerFits, headerAgrees, newHeader, countAgrees, newCount, afterChunk, passed, judge}
 use Rattle.pe_slot.specs.Memory.{slotOf, isSound}
-use Rattle.pe_slot.specs.Feed.{Told, toldAnswer, After, after, placed, isShaped, feedSlot}
+use Rattle.pe_slot.specs.Feed.{Told, toldAnswer, SlotLeft, slotLeft, placed, isShaped, feedSlot}
 use Rattle.pe_reassembler.specs.declared.shape.Shape.{Shape}
 use Rattle.pe_reassembler.specs.Table.{hasNumbers, hasRooms, isBound, boundTo, peerAt, slotAt, roomAt, roomsLen, recordFor}
 use Rattle.pe_reassembler.specs.Feed.{Memory, memory, Fed, fed, nextTick, bind, hasAll, lifted, reach, wordsPart, roomPart}
@@ -156,7 +156,7 @@ noting tick peer p f =
 module _ (words index header arena : List ℕ) (c : Chunk) (now-ms tick : ℕ) (out-header out-body : List ℕ)
     (h : isShaped words index header arena out-header out-body ≡ true) where
   damaged : isSound (length header) (length arena) (length index) (slotOf words) index ≡ false
-      → feedSlot words index header arena c now-ms tick out-header out-body ≡ after (refused 31 0) words index header arena out-header out-body
+      → feedSlot words index header arena c now-ms tick out-header out-body ≡ slotLeft (refused 31 0) words index header arena out-header out-body
   unfolding feedSlot
   damaged n = rw (h, n)
 
@@ -221,10 +221,10 @@ module _ (shape : Shape) (m : Memory) (peer : ℕ) (c : Chunk) (now-ms p s : ℕ
   abbrev tick : ℕ
   tick = nextTick (getD (m .numbers) 0 0)
 
-  abbrev slot-fed : After
+  abbrev slot-fed : SlotLeft
   slot-fed = feedSlot words records header arena c now-ms tick (m .out-header) (m .out-body)
 
-  abbrev in-place : After → Fed
+  abbrev in-place : SlotLeft → Fed
   in-place a =
       spliced (slotAt p s) (roomAt (shape .«fragment_records») p s) (shape .«fragment_records») (roomAt (shape .«header_bytes») p s) (shape .«header_bytes»)
       (roomAt (shape .«tx_bytes») p s) (shape .«tx_bytes») m a
@@ -238,7 +238,7 @@ module _ (shape : Shape) (m : Memory) (peer : ℕ) (c : Chunk) (now-ms p s : ℕ
   reached-damaged : soundness ≡ false → noting tick peer p (in-place slot-fed) ≡ reach shape m peer c now-ms p s
   unfolding reach
   reached-damaged n =
-      ap (λ (a : After). noting tick peer p (in-place a)) (damaged words records header arena c now-ms tick (m .out-header) (m .out-body) is-shaped (same-sound ∙ n))
+      ap (λ (a : SlotLeft). noting tick peer p (in-place a)) (damaged words records header arena c now-ms tick (m .out-header) (m .out-body) is-shaped (same-sound ∙ n))
       ∙ rw (
         n,
         splice-own (slotAt p s) 9 (m .numbers),
@@ -267,7 +267,7 @@ module _ (shape : Shape) (m : Memory) (peer : ℕ) (c : Chunk) (now-ms p s : ℕ
 -- the parts that a slot was lent, back in their places
 pub feed-back : (at index-at records header-at header-bytes arena-at tx-bytes : ℕ) (m : Memory) (c : Chunk) (now-ms tick : ℕ)
     (answer : Reply Told) (words index header arena out-header out-body : List ℕ)
-    → after answer words index header arena out-header out-body
+    → slotLeft answer words index header arena out-header out-body
     ≡ feedSlot (take (at + 9 - at) (drop at (m .numbers))) (take (index-at + records - index-at) (drop index-at (m .index)))
     (take (header-at + header-bytes - header-at) (drop header-at (m .headers))) (take (arena-at + tx-bytes - arena-at) (drop arena-at (m .arenas)))
     c now-ms tick (m .out-header) (m .out-body)
@@ -288,7 +288,7 @@ feed-back at index-at records header-at header-bytes arena-at tx-bytes m c now-m
       part-back header-at header-bytes (m .headers) header,
       part-back arena-at tx-bytes (m .arenas) arena,
     )
-    (ap (λ (a : After). spliced at index-at records header-at header-bytes arena-at tx-bytes m a)
+    (ap (λ (a : SlotLeft). spliced at index-at records header-at header-bytes arena-at tx-bytes m a)
     (rw (
       part-lent at 9 (m .numbers),
       part-lent index-at records (m .index),

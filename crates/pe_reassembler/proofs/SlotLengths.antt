@@ -12,10 +12,10 @@ use lib.ListN.{length, length-set}
 use Rattle.seven_bit.specs.Reply.{Reply, refused}
 use Rattle.seven_bit.proofs.PartLaws.{length-part, length-splice}
 use Rattle.pe_frame.specs.Chunk.{Chunk}
-use Rattle.pe_slot.specs.declared.slot.TxSlot.{TxSlot}
+use Rattle.pe_slot.specs.declared.layout.TxSlot.{TxSlot}
 use Rattle.pe_slot.specs.Slot.{Verdict, judge}
 use Rattle.pe_slot.specs.Memory.{slotOf, wordsOf, packed, contents, isSound}
-use Rattle.pe_slot.specs.Feed.{Told, After, after, touched, grown, closed, placed, isShaped, feedSlot}
+use Rattle.pe_slot.specs.Feed.{Told, SlotLeft, slotLeft, touched, grown, closedSlot, placed, isShaped, feedSlot}
 use Rattle.pe_slot.proofs.FeedLaws.{newIndex, newArena, length-kept}
 use Rattle.pe_slot.proofs.FeedTheorems.{Sound, sound-told, opened}
 use Rattle.pe_slot.proofs.JudgeLaws.{Fitting, judge-fitting}
@@ -26,7 +26,7 @@ use Rattle.pe_reassembler.proofs.Effects.{Sized, Roomy, rooms-told}
 use Rattle.pe_reassembler.proofs.FeedLaws.{room-in}
 
 -- a slot's parts as long as they were
-pub record SameLengths (index header arena : List ℕ) (a : After) : Type 0 where
+pub record SameLengths (index header arena : List ℕ) (a : SlotLeft) : Type 0 where
   pub nine : length (a .words) ≡ 9
   pub records : length (a .index) ≡ length index
   pub header-bytes : length (a .header) ≡ length header
@@ -68,7 +68,7 @@ module _ (t : TxSlot) (index header arena : List ℕ) (c : Chunk) (out-header ou
   unfolding placed
   placed-blank o v = go (v .closes) (grown t c v) o
     where
-      go : (b : Bool) (g : TxSlot) → eqb (g .active) 0 ≡ false → Blank (slotOf (wordsOf (cond b (closed g) g)))
+      go : (b : Bool) (g : TxSlot) → eqb (g .active) 0 ≡ false → Blank (slotOf (wordsOf (cond b (closedSlot g) g)))
       go true g e = λ (z : _). (refl, refl)
       go false g e = λ (z : g .active ≡ 0). absurd (let y : _≡_ {A = Bool} true false = sym (eq-eqb _ _ z) ∙ e in let x : _≡_ {A = ℕ} 0 1 = cc in omega arith)
 
@@ -80,18 +80,18 @@ module _ (t : TxSlot) (index header arena : List ℕ) (c : Chunk) (out-header ou
       storing true e = absurd (let z : _≡_ {A = ℕ} 1 0 = e in omega arith)
       storing false e = h e
 
-      closing : (b : Bool) (g : TxSlot) → Headed g → Headed (slotOf (wordsOf (cond b (closed g) g)))
+      closing : (b : Bool) (g : TxSlot) → Headed g → Headed (slotOf (wordsOf (cond b (closedSlot g) g)))
       closing true g e = λ (z : _). refl
       closing false g e = e
 
 -- whatever the answer is: nothing was changed, or a sound slot was asked its own questions
 module _ (words index header arena : List ℕ) (c : Chunk) (now-ms tick : ℕ) (out-header out-body : List ℕ) where
-  abbrev asked : After
+  abbrev asked : SlotLeft
   asked =
       placed (touched (slotOf words) (c .request-id) now-ms tick) index header arena c
       (judge (length header) (length arena) (length index) (contents (slotOf words) index header arena) c) out-header out-body
 
-  fed-either : (P : After → Type 0) → ((r : Reply Told) → P (after r words index header arena out-header out-body))
+  fed-either : (P : SlotLeft → Type 0) → ((r : Reply Told) → P (slotLeft r words index header arena out-header out-body))
       → (isSound (length header) (length arena) (length index) (slotOf words) index ≡ true → P asked)
       → P (feedSlot words index header arena c now-ms tick out-header out-body)
   unfolding feedSlot
@@ -102,9 +102,9 @@ module _ (words index header arena : List ℕ) (c : Chunk) (now-ms tick : ℕ) (
           → P
           (cond shaped
           (cond sound
-          (cond short asked (after (refused 1 0) words index header arena out-header out-body))
-          (after (refused 31 0) words index header arena out-header out-body))
-          (after (refused 30 0) words index header arena out-header out-body))
+          (cond short asked (slotLeft (refused 1 0) words index header arena out-header out-body))
+          (slotLeft (refused 31 0) words index header arena out-header out-body))
+          (slotLeft (refused 30 0) words index header arena out-header out-body))
       go false sound q short = f (refused 30 0)
       go true false q short = f (refused 31 0)
       go true true q false = f (refused 1 0)
@@ -122,13 +122,13 @@ module _ (words index header arena : List ℕ) (c : Chunk) (now-ms tick : ℕ) (
 
   pub fed-blank : Blank (slotOf words) → Blank (slotOf (feedSlot words index header arena c now-ms tick out-header out-body .words))
   fed-blank n =
-      fed-either (λ (a : After). Blank (slotOf (a .words))) (λ (r : Reply Told). n)
+      fed-either (λ (a : SlotLeft). Blank (slotOf (a .words))) (λ (r : Reply Told). n)
       (λ (q : _). placed-blank (touched (slotOf words) (c .request-id) now-ms tick) index header arena c out-header out-body (opened (slotOf words .active))
       (judge (length header) (length arena) (length index) (contents (slotOf words) index header arena) c))
 
   pub fed-headed : Headed (slotOf words) → Headed (slotOf (feedSlot words index header arena c now-ms tick out-header out-body .words))
   fed-headed n =
-      fed-either (λ (a : After). Headed (slotOf (a .words))) (λ (r : Reply Told). n)
+      fed-either (λ (a : SlotLeft). Headed (slotOf (a .words))) (λ (r : Reply Told). n)
       (λ (q : _). placed-headed (touched (slotOf words) (c .request-id) now-ms tick) index header arena c out-header out-body n
       (judge (length header) (length arena) (length index) (contents (slotOf words) index header arena) c))
 

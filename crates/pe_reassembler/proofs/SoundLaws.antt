@@ -18,7 +18,7 @@ use Rattle.pe_frame.specs.Chunk.{Chunk, Fields, readFields, chunkOf}
 use Rattle.pe_frame.proofs.RoundTrip.{read-told}
 use Rattle.pe_wire.proofs.RoundTrip.{read-small}
 use Rattle.pe_slot.specs.Memory.{slotOf, wordsOf, endsAt, isSound}
-use Rattle.pe_slot.specs.Feed.{After, closed, feedSlot}
+use Rattle.pe_slot.specs.Feed.{SlotLeft, closedSlot, feedSlot}
 use Rattle.pe_slot.proofs.FeedTheorems.{sound-again}
 use Rattle.pe_reassembler.specs.declared.shape.Shape.{Shape}
 use Rattle.pe_reassembler.specs.Calls.{numbered, newCall, closeAt, cancelIn, cancelAt, cancelCall, dropAt, dropCall}
@@ -43,7 +43,7 @@ pub record SlotsSound (shape : Shape) (numbers index : List ℕ) : Type 0 where
       → SlotSound (shape .«header_bytes») (shape .«tx_bytes») (shape .«fragment_records») (wordsPart numbers p s) (roomPart (shape .«fragment_records») index p s)
 
 -- a slot that is closed
-closed-sound : (H B R : ℕ) (words records : List ℕ) → SlotSound H B R (wordsOf (closed (slotOf words))) records
+closed-sound : (H B R : ℕ) (words records : List ℕ) → SlotSound H B R (wordsOf (closedSlot (slotOf words))) records
 unfolding isSound endsAt
 closed-sound H B R words records =
     record {
@@ -52,7 +52,7 @@ closed-sound H B R words records =
       headed = λ (z : _). refl;
     }
 
-closed-if : (H B R : ℕ) (words records : List ℕ) (b : Bool) → SlotSound H B R words records → SlotSound H B R (cond b (wordsOf (closed (slotOf words))) words) records
+closed-if : (H B R : ℕ) (words records : List ℕ) (b : Bool) → SlotSound H B R words records → SlotSound H B R (cond b (wordsOf (closedSlot (slotOf words))) words) records
 closed-if H B R words records true s = closed-sound H B R words records
 closed-if H B R words records false s = s
 
@@ -173,7 +173,7 @@ module _ (shape : Shape) (m : Memory) (peer now-ms : ℕ) (h : hasRooms shape (m
     abbrev arena : List ℕ
     arena = roomPart (shape .«tx_bytes») (m .arenas) p s
 
-    abbrev slot-fed : After
+    abbrev slot-fed : SlotLeft
     slot-fed = feedSlot words records header arena c now-ms (nextTick (getD (m .numbers) 0 0)) (m .out-header) (m .out-body)
 
     sized : Sized shape slot-fed

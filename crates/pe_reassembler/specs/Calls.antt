@@ -9,7 +9,7 @@ use lib.ListN.{length, getD, set, drop, replicate}
 use Rattle.seven_bit.specs.Parts.{part, splice}
 use Rattle.seven_bit.specs.Reply.{Reply, granted, refused}
 use Rattle.pe_wire.specs.Errors.{peRefused}
-use Rattle.pe_slot.specs.Feed.{closed}
+use Rattle.pe_slot.specs.Feed.{closedSlot}
 use Rattle.pe_slot.specs.Memory.{slotOf, wordsOf}
 use Rattle.pe_reassembler.specs.declared.shape.Shape.{Shape}
 use Rattle.pe_reassembler.specs.declared.calls.Made.{Made}
@@ -53,7 +53,7 @@ madeTold (Made.Refused e) = peRefused e
 
 -- A slot closed in its place.
 unfoldable pub closeAt : ℕ → ℕ → List ℕ → List ℕ
-closeAt p s numbers = splice (slotAt p s) 9 numbers (wordsOf (closed (slotOf (part (slotAt p s) 9 numbers))))
+closeAt p s numbers = splice (slotAt p s) 9 numbers (wordsOf (closedSlot (slotOf (part (slotAt p s) 9 numbers))))
 
 -- "Cancel closes the transfer it names"; "without a match answer no"
 abbrev pub cancelIn : Option ℕ → ℕ → List ℕ → Numbered Bool

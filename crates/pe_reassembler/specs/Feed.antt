@@ -10,7 +10,7 @@ use Rattle.seven_bit.specs.Parts.{part, splice}
 use Rattle.seven_bit.specs.Reply.{Reply, granted, refused}
 use Rattle.midici_core.specs.Message.{Message, readMessage}
 use Rattle.pe_frame.specs.Chunk.{Chunk, Fields, readFields, chunkOf}
-use Rattle.pe_slot.specs.Feed.{Told, After, feedSlot}
+use Rattle.pe_slot.specs.Feed.{Told, SlotLeft, feedSlot}
 use Rattle.pe_slot.specs.Memory.{slotOf, isSound}
 use Rattle.pe_reassembler.specs.declared.shape.Shape.{Shape}
 use Rattle.pe_reassembler.specs.Table.{hasRooms, isMuid, isBound, boundTo, peerAt, slotAt, roomAt, recordFor, slotFor}
@@ -52,7 +52,7 @@ abbrev pub roomPart : ℕ → List ℕ → ℕ → ℕ → List ℕ
 roomPart size rooms p s = part (roomAt size p s) size rooms
 
 -- What the slot left, in its place; the clock and the binding.
-unfoldable pub lifted : Shape → Memory → ℕ → ℕ → ℕ → After → Fed
+unfoldable pub lifted : Shape → Memory → ℕ → ℕ → ℕ → SlotLeft → Fed
 lifted shape m peer p s a =
     fed (a .answer)
     (memory

@@ -7,11 +7,11 @@ use lib.Dec.{eqb}
 use lib.ListN.{set}
 use Rattle.seven_bit.specs.Parts.{splice}
 use Rattle.seven_bit.specs.Reply.{Reply, granted, refused}
-use Rattle.pe_slot.specs.Feed.{Told, still, After}
+use Rattle.pe_slot.specs.Feed.{Told, still, SlotLeft}
 use Rattle.pe_reassembler.specs.Feed.{Memory, memory, Fed, fed, bind}
 
 -- What the slot left, in its place: nine words from a place on, and rooms by their places and sizes.
-abbrev pub spliced : ℕ → ℕ → ℕ → ℕ → ℕ → ℕ → ℕ → Memory → After → Fed
+abbrev pub spliced : ℕ → ℕ → ℕ → ℕ → ℕ → ℕ → ℕ → Memory → SlotLeft → Fed
 spliced at index-at records header-at header-bytes arena-at tx-bytes m a =
     fed (a .answer)
     (memory

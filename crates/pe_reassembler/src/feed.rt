@@ -17,6 +17,7 @@ use pe_frame::frame::ChunkFields;
 use pe_frame::frame::ChunkRead;
 use pe_frame::frame::decode_fields;
 use pe_slot::slot::Fed;
+use pe_slot::slot::Moment;
 use pe_slot::slot::feed_slot;
 use pe_wire::error::PeError;
 ghost use mathlib.Core.Bool.{true};
@@ -152,8 +153,10 @@ fn feed_parts(
         num_chunks,
         chunk_num,
         property,
-        now_ms,
-        tick,
+        Moment {
+            now_ms: now_ms,
+            tick: tick,
+        },
         out_header,
         out_body,
     )

@@ -5,7 +5,7 @@ ghost use mathlib.Core.Path.{_≡_};
 ghost use Prim.Native.Nat.{_+_, _*_, _≤_, _<_};
 ghost use lib.Dec.{leb};
 ghost use lib.ListN.{length};
-ghost use Rattle.pe_slot.specs.Feed.{closed};
+ghost use Rattle.pe_slot.specs.Feed.{closedSlot};
 ghost use Rattle.pe_slot.specs.Memory.{slotOf, wordsOf};
 ghost use Rattle.pe_reassembler.specs.Calls.{closeAt};
 ghost use Rattle.pe_reassembler.specs.Table.{inRange, hasNumbers, hasRooms, peerAt, slotAt, isBound, boundTo, isIdle, hasId, first, orElse, recordOf, recordFor, slotOpen, slotFor, isActive, placeTold};
@@ -266,7 +266,7 @@ pub(crate) fn slot_for(numbers: &[u64], p: usize, request_id: u8) -> Place
 // Closes the slot of nine words: all but the tick become 0.
 fn clear(words: &mut [u64])
     requires { ⌜ length (now words) ≡ 9 ⌝ }
-    ensures { λ _. ⌜ now (words .exit) ≡ wordsOf (closed (slotOf (now (words .entry)))) ⌝ }
+    ensures { λ _. ⌜ now (words .exit) ≡ wordsOf (closedSlot (slotOf (now (words .entry)))) ⌝ }
 {
     words[0] = 0;
     words[1] = 0;

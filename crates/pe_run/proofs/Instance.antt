@@ -16,7 +16,7 @@ use Rattle.pe_frame.specs.Chunk.{Chunk}
 use Rattle.pe_frame.specs.Write.{chunkBytes, chunkLen, headerFor, writeWhole}
 use Rattle.pe_frame.proofs.ChunkLaws.{InRange, ask-yes}
 use Rattle.pe_frame.proofs.RoundTrip.{bytes-read, bytes-chunk, whole-then-read, read-bytes-are, fields}
-use Rattle.pe_slot.specs.Slot.{held, allHeld, bodyLen, isWhole, eventOf, headerFits, sameHeader, eqList, headerAgrees, isNone, newHeader, countAgrees, newCount, afterChunk, passed, judge}
+use Rattle.pe_slot.specs.Slot.{held, allHeld, bodyLen, isWhole, eventOf, headerFits, sameHeader, eqList, headerAgrees, noneKnown, newHeader, countAgrees, newCount, afterChunk, passed, judge}
 use Rattle.pe_chunker.specs.Cut.{clamped, budget, laterCapacity, firstCapacity, askFirst, cutUp, bodyPieces, chunkAt, askCut, cutCount, cutChunk}
 use Rattle.pe_chunker.proofs.CutLaws.{budget-between}
 use Rattle.pe_chunker.proofs.Theorems.{fields-in-range, budget-is-room}
@@ -155,14 +155,14 @@ arrives-9 : fedArrival 9 (chunkBytes (other 6 1)) 200 out-header out-body ≡ gr
 arrives-9 = fed-arrives 9 (other 6 1) 200 refl (other-in-range 6 1 (omega arith) (omega arith))
 
 instance-room : Room 2 9 5 (modelAfter 2 before)
-unfolding arrives findsRecord hasFour judged judge headerFits headerAgrees sameHeader countAgrees newHeader newCount isNone held bodyLen afterChunk passed isWhole allHeld eventOf
+unfolding arrives findsRecord hasFour judged judge headerFits headerAgrees sameHeader countAgrees newHeader newCount noneKnown held bodyLen afterChunk passed isWhole allHeld eventOf
 instance-room =
     rw (arrives-before-8, arrives-before-9)
     (record { record-found = refl; not-open = refl; fewer = omega arith })
 
 -- peer 9's chunk of request id 6 is held already
 pub duplicate-refused : arrives 2 (modelAfter 2 (before ++ (first ∷ feed 8 (chunkBytes (other 5 2)) 150 out-header out-body ∷ []))) 9 (other 6 1) 200 .answer ≡ refused 8 0
-unfolding arrives findsRecord hasFour judged judge headerFits headerAgrees sameHeader eqList countAgrees newHeader newCount isNone held bodyLen afterChunk passed isWhole allHeld eventOf
+unfolding arrives findsRecord hasFour judged judge headerFits headerAgrees sameHeader eqList countAgrees newHeader newCount noneKnown held bodyLen afterChunk passed isWhole allHeld eventOf
 duplicate-refused = rw (arrives-before-8, arrives-before-9, arrives-first, arrives-8) refl
 
 instance-once : Perm (arrivals (ours 9 5 (first ∷ rest))) (chunkBytes one ∷ chunkBytes two ∷ [])

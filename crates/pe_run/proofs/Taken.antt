@@ -13,7 +13,7 @@ use lib.ListN.{length, length-append, length-map}
 use Rattle.seven_bit.specs.Reply.{granted}
 use Rattle.seven_bit.proofs.ReplyLaws.{both}
 use Rattle.pe_frame.specs.Chunk.{Chunk}
-use Rattle.pe_slot.specs.Slot.{Slot, held, allHeld, bodyLen, isWhole, Event, waiting, whole, eventOf, headerFits, sameHeader, headerAgrees, isNone, newHeader, countAgrees, newCount, afterChunk, passed, judge}
+use Rattle.pe_slot.specs.Slot.{Slot, held, allHeld, bodyLen, isWhole, Event, waiting, whole, eventOf, headerFits, sameHeader, headerAgrees, noneKnown, newHeader, countAgrees, newCount, afterChunk, passed, judge}
 use Rattle.pe_slot.proofs.OrderHeldLaws.{all-yes, all-no}
 use Rattle.pe_run.specs.Lists.{memb}
 use Rattle.pe_run.specs.Model.{Open, Judged, judged}
@@ -96,8 +96,8 @@ module _ {n : ℕ} {header body : List ℕ} (held-now : List Chunk) (c : Chunk) 
       agrees (inr e) = rw e
 
   -- the slot then holds it too
-  after-header : cond (eqb (c .chunk-num) 1 && isNone (headerWith header held-now)) (some (c .header)) (headerWith header held-now) ≡ headerWith header (held-now ++ (c ∷ []))
-  unfolding isNone
+  after-header : cond (eqb (c .chunk-num) 1 && noneKnown (headerWith header held-now)) (some (c .header)) (headerWith header held-now) ≡ headerWith header (held-now ++ (c ∷ []))
+  unfolding noneKnown
   after-header = go (both (eqb (c .chunk-num) 1))
     where
       one-more : memb 1 (numbers (held-now ++ (c ∷ []))) ≡ cond (memb 1 (numbers held-now)) true (cond (eqb 1 (c .chunk-num)) true false)
@@ -112,7 +112,7 @@ module _ {n : ℕ} {header body : List ℕ} (held-now : List Chunk) (c : Chunk) 
       either false = refl
 
       go : (eqb (c .chunk-num) 1 ≡ true) ⊎ (eqb (c .chunk-num) 1 ≡ false)
-          → cond (eqb (c .chunk-num) 1 && isNone (headerWith header held-now)) (some (c .header)) (headerWith header held-now) ≡ headerWith header (held-now ++ (c ∷ []))
+          → cond (eqb (c .chunk-num) 1 && noneKnown (headerWith header held-now)) (some (c .header)) (headerWith header held-now) ≡ headerWith header (held-now ++ (c ∷ []))
       go (inl e) =
           let now : memb 1 (numbers (held-now ++ (c ∷ []))) ≡ true = one-more ∙ rw (eqb-sym 1 (c .chunk-num), e) (either (memb 1 (numbers held-now))) in
           rw (e, headless e, now) (ap {B = Option (List ℕ)} some (of .header-is e))

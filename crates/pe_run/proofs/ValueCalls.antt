@@ -9,7 +9,7 @@ use native.Mathlib.Omega.{arith}
 use lib.ListN.{length, getD, set}
 use lib.Seq.{set-getD}
 use Rattle.seven_bit.specs.Reply.{granted, refused}
-use Rattle.pe_slot.specs.Feed.{closed}
+use Rattle.pe_slot.specs.Feed.{closedSlot}
 use Rattle.pe_slot.specs.Memory.{slotOf, wordsOf}
 use Rattle.pe_reassembler.specs.Table.{isMuid, peerAt, isBound, isActive, recordOf, slotOpen}
 use Rattle.pe_reassembler.specs.Feed.{wordsPart, roomPart}
@@ -67,14 +67,14 @@ module _ (t : Table) (numbers′ : List ℕ) where
   renumbered-long n l e = record { numbers = rw e (l .numbers); index = l .index; headers = l .headers; arenas = l .arenas }
 
   -- a slot that is closed if a test says so
-  pub cell-closed : (p s : ℕ) (b : Bool) → wordsPart numbers′ p s ≡ cond b (wordsOf (closed (slotOf (wordsPart (t .numbers) p s)))) (wordsPart (t .numbers) p s)
+  pub cell-closed : (p s : ℕ) (b : Bool) → wordsPart numbers′ p s ≡ cond b (wordsOf (closedSlot (slotOf (wordsPart (t .numbers) p s)))) (wordsPart (t .numbers) p s)
       → cellAt t′ p s ≡ cond b (shut (cellAt t p s)) (cellAt t p s)
   unfolding cellAt
   cell-closed p s b e =
       ap (λ (w : List ℕ). cellOf w (roomPart 2048 (t .index) p s) (roomPart 4096 (t .headers) p s) (roomPart 65536 (t .arenas) p s)) e
       ∙ go b
     where
-      go : (b : Bool) → cellOf (cond b (wordsOf (closed (slotOf (wordsPart (t .numbers) p s)))) (wordsPart (t .numbers) p s))
+      go : (b : Bool) → cellOf (cond b (wordsOf (closedSlot (slotOf (wordsPart (t .numbers) p s)))) (wordsPart (t .numbers) p s))
           (roomPart 2048 (t .index) p s) (roomPart 4096 (t .headers) p s) (roomPart 65536 (t .arenas) p s)
           ≡ cond b (shut (cellOf (wordsPart (t .numbers) p s) (roomPart 2048 (t .index) p s) (roomPart 4096 (t .headers) p s) (roomPart 65536 (t .arenas) p s)))
           (cellOf (wordsPart (t .numbers) p s) (roomPart 2048 (t .index) p s) (roomPart 4096 (t .headers) p s) (roomPart 65536 (t .arenas) p s))

@@ -11,7 +11,7 @@ use Rattle.seven_bit.specs.Reply.{granted, refused}
 use Rattle.pe_frame.specs.Chunk.{Chunk, Fields, readFields, chunkOf}
 use Rattle.pe_frame.proofs.RoundTrip.{read-told}
 use Rattle.pe_wire.proofs.RoundTrip.{read-small}
-use Rattle.pe_slot.specs.Feed.{After, feedSlot, toldAnswer, outHeader, outBody}
+use Rattle.pe_slot.specs.Feed.{SlotLeft, feedSlot, toldAnswer, outHeader, outBody}
 use Rattle.pe_reassembler.specs.Table.{hasRooms, recordFor, slotFor}
 use Rattle.pe_reassembler.specs.Feed.{Memory, Fed, fed, nextTick, wordsPart, roomPart, lifted, reach, inSlot, inRecord, atTable}
 use Rattle.pe_reassembler.proofs.TableLaws.{record-for-below, slot-for-below}
@@ -28,7 +28,7 @@ use Rattle.pe_run.proofs.ValueSlot.{Sized, fed-cell, fed-told}
 use Rattle.pe_run.proofs.ValuePlaces.{rec-at, cell-at, rec-is, cell-same, cell-kept, rec-kept, cells-set, recs-set}
 
 -- what a slot left in its place
-module _ (n : ℕ) (t : Table) (out-header out-body : List ℕ) (peer p s : ℕ) (a : After) (few : n ≤ 16) (long : LongEnough n t)
+module _ (n : ℕ) (t : Table) (out-header out-body : List ℕ) (peer p s : ℕ) (a : SlotLeft) (few : n ≤ 16) (long : LongEnough n t)
     (size : AfterSized (fullSize n) a) (hp : p < n) (hs : s < 4) where
   abbrev m : Memory
   m = lent t out-header out-body
@@ -99,7 +99,7 @@ module _ (n : ℕ) (t : Table) (out-header out-body : List ℕ) (peer : ℕ) (c 
   v = valueOf n t
 
   module _ (p s : ℕ) (hp : p < n) (hs : s < 4) where
-    abbrev a : After
+    abbrev a : SlotLeft
     a = feedSlot (wordsPart (t .numbers) p s) (roomPart 2048 (t .index) p s) (roomPart 4096 (t .headers) p s) (roomPart 65536 (t .arenas) p s)
         c now-ms (nextTick (getD (t .numbers) 0 0)) out-header out-body
 

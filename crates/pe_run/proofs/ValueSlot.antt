@@ -11,17 +11,17 @@ use lib.Dec.{leb, eqb}
 use lib.ListN.{length, getD, take}
 use Rattle.seven_bit.proofs.ReplyLaws.{both, and-told}
 use Rattle.pe_frame.specs.Chunk.{Chunk}
-use Rattle.pe_slot.specs.declared.slot.TxSlot.{TxSlot}
+use Rattle.pe_slot.specs.declared.layout.TxSlot.{TxSlot}
 use Rattle.pe_slot.specs.Slot.{Slot, Verdict, judge, slotAfter}
 use Rattle.pe_slot.specs.Memory.{slotOf, wordsOf, piecesOf, contents, endsAt, isEnd, isSound}
-use Rattle.pe_slot.specs.Feed.{After, touched, grown, closed, toldAnswer, outHeader, outBody, placed, isShaped, feedSlot}
+use Rattle.pe_slot.specs.Feed.{SlotLeft, touched, grown, closedSlot, toldAnswer, outHeader, outBody, placed, isShaped, feedSlot}
 use Rattle.pe_slot.proofs.FeedTheorems.{memory-follows, opened}
 use Rattle.pe_reassembler.proofs.SoundLaws.{SlotSound}
 use Rattle.pe_run.specs.Model.{Open, touchedAt, Judged, judged}
 use Rattle.pe_run.proofs.Value.{cellOf, cellWith, shut}
 
 -- a closed slot is a shut cell
-pub closed-cell : (words index header arena : List ℕ) → cellOf (wordsOf (closed (slotOf words))) index header arena ≡ shut (cellOf words index header arena)
+pub closed-cell : (words index header arena : List ℕ) → cellOf (wordsOf (closedSlot (slotOf words))) index header arena ≡ shut (cellOf words index header arena)
 unfolding cellOf
 closed-cell words index header arena = refl
 
@@ -86,8 +86,8 @@ module _ (words index header arena : List ℕ) (neat : SlotSound 4096 65536 2048
 -- what a verdict leaves of the words, as a cell
 cell-left : (closes : Bool) (t : TxSlot) (c : Chunk) (v : Verdict) (request-id now-ms tick : ℕ) (index header arena : List ℕ) (s : Slot)
     → (let g : TxSlot = grown (touched t request-id now-ms tick) c v in
-    (closes ≡ false → contents (slotOf (wordsOf (cond closes (closed g) g))) index header arena ≡ s)
-    → cellOf (wordsOf (cond closes (closed g) g)) index header arena ≡ cellWith tick request-id (cond closes none (some (record { time = now-ms; slot = s }))))
+    (closes ≡ false → contents (slotOf (wordsOf (cond closes (closedSlot g) g))) index header arena ≡ s)
+    → cellOf (wordsOf (cond closes (closedSlot g) g)) index header arena ≡ cellWith tick request-id (cond closes none (some (record { time = now-ms; slot = s }))))
 unfolding cellOf
 cell-left true t c v request-id now-ms tick index header arena s e = refl
 cell-left false t c v request-id now-ms tick index header arena s e = rw (opened (t .active), e refl)
@@ -102,10 +102,10 @@ module _ (words index header arena : List ℕ) (c : Chunk) (now-ms tick : ℕ) (
   abbrev verdict : Verdict
   verdict = judge 4096 65536 2048 held c
 
-  abbrev fed : After
+  abbrev fed : SlotLeft
   fed = feedSlot words index header arena c now-ms tick out-header out-body
 
-  abbrev left : After
+  abbrev left : SlotLeft
   left = placed (touched (slotOf words) (c .request-id) now-ms tick) index header arena c verdict out-header out-body
 
   fed-is : fed ≡ left
@@ -135,14 +135,14 @@ module _ (words index header arena : List ℕ) (c : Chunk) (now-ms tick : ℕ) (
 
   pub fed-cell : cellOf (fed .words) (fed .index) (fed .header) (fed .arena) ≡ cellWith tick (c .request-id) (told .left)
   fed-cell =
-      ap (λ (x : After). cellOf (x .words) (x .index) (x .header) (x .arena)) fed-is
+      ap (λ (x : SlotLeft). cellOf (x .words) (x .index) (x .header) (x .arena)) fed-is
       ∙ left-cell
       ∙ ap (λ (j : Judged). cellWith tick (c .request-id) (j .left)) (sym told-is)
 
   pub fed-told : (fed .answer ≡ toldAnswer (told .answer)) × (fed .out-header ≡ outHeader (told .answer) out-header) × (fed .out-body ≡ outBody (told .answer) out-body)
   unfolding judged placed
   fed-told = (
-    ap (λ (x : After). x .answer) fed-is ∙ ap (λ (j : Judged). toldAnswer (j .answer)) (sym told-is),
-    ap (λ (x : After). x .out-header) fed-is ∙ ap (λ (j : Judged). outHeader (j .answer) out-header) (sym told-is),
-    ap (λ (x : After). x .out-body) fed-is ∙ ap (λ (j : Judged). outBody (j .answer) out-body) (sym told-is),
+    ap (λ (x : SlotLeft). x .answer) fed-is ∙ ap (λ (j : Judged). toldAnswer (j .answer)) (sym told-is),
+    ap (λ (x : SlotLeft). x .out-header) fed-is ∙ ap (λ (j : Judged). outHeader (j .answer) out-header) (sym told-is),
+    ap (λ (x : SlotLeft). x .out-body) fed-is ∙ ap (λ (j : Judged). outBody (j .answer) out-body) (sym told-is),
   )

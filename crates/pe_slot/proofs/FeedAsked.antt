@@ -13,16 +13,17 @@ use Rattle.seven_bit.proofs.ReplyLaws.{and-told}
 use Rattle.seven_bit.specs.Reply.{refused}
 use Rattle.pe_frame.specs.Chunk.{Chunk}
 use Rattle.pe_slot.specs.declared.records.Pass.{Pass}
-use Rattle.pe_slot.specs.declared.slot.TxSlot.{TxSlot}
+use Rattle.pe_slot.specs.declared.layout.TxSlot.{TxSlot}
+use Rattle.pe_slot.specs.Layout.{slotWords}
 use Rattle.pe_slot.specs.Slot.{judge}
 use Rattle.pe_slot.specs.Memory.{slotOf, wordsOf, contents, endsAt, isEnd, isSound}
 use Rattle.pe_slot.specs.Records.{Scanned}
-use Rattle.pe_slot.specs.Feed.{After, after, touched, placed, isShaped, feedSlot}
+use Rattle.pe_slot.specs.Feed.{SlotLeft, slotLeft, touched, placed, isShaped, feedSlot}
 use Rattle.pe_slot.specs.Steps.{isBounded}
 
 -- the lengths of a slot's parts are in range
 pub record Shaped (words index header arena out-header out-body : List ℕ) : Type 0 where
-  pub nine : length words ≡ 9
+  pub nine : length words ≡ slotWords
   pub records : length index ≤ 2048
   pub bytes : length arena ≤ 65536
   pub header-room : length header ≤ length out-header
@@ -35,7 +36,7 @@ shaped-told words index header arena out-header out-body e =
     let p₂ = and-told _ (leb (length header) (length out-header)) (p₁ .0) in
     let p₃ = and-told _ (leb (length arena) 65536) (p₂ .0) in
     let p₄ = and-told _ (leb (length header) 4096) (p₃ .0) in
-    let p₅ = and-told (eqb (length words) 9) (leb (length index) 2048) (p₄ .0) in
+    let p₅ = and-told (eqb (length words) slotWords) (leb (length index) 2048) (p₄ .0) in
     record {
       nine = eqb-true _ _ (p₅ .0);
       records = leb-true _ _ (p₅ .1);
@@ -106,23 +107,23 @@ module _ (H B R : ℕ) (t : TxSlot) (index : List ℕ) {bound : Bool} (q : bound
 -- what each answer leaves
 module _ (words index header arena : List ℕ) (c : Chunk) (now-ms tick : ℕ) (out-header out-body : List ℕ) where
   pub fed-unshaped : isShaped words index header arena out-header out-body ≡ false
-      → after (refused 30 0) words index header arena out-header out-body ≡ feedSlot words index header arena c now-ms tick out-header out-body
+      → slotLeft (refused 30 0) words index header arena out-header out-body ≡ feedSlot words index header arena c now-ms tick out-header out-body
   unfolding feedSlot
   fed-unshaped s = rw s
 
   module _ (s : isShaped words index header arena out-header out-body ≡ true) where
     pub fed-damaged : isSound (length header) (length arena) (length index) (slotOf words) index ≡ false
-        → after (refused 31 0) words index header arena out-header out-body ≡ feedSlot words index header arena c now-ms tick out-header out-body
+        → slotLeft (refused 31 0) words index header arena out-header out-body ≡ feedSlot words index header arena c now-ms tick out-header out-body
     unfolding feedSlot
     fed-damaged n = rw (s, n)
 
     pub fed-long : isSound (length header) (length arena) (length index) (slotOf words) index ≡ true → 16383 < length (c .property)
-        → after (refused 1 0) words index header arena out-header out-body ≡ feedSlot words index header arena c now-ms tick out-header out-body
+        → slotLeft (refused 1 0) words index header arena out-header out-body ≡ feedSlot words index header arena c now-ms tick out-header out-body
     unfolding feedSlot
     fed-long y l = rw (s, y, lt-leb _ _ l)
 
     -- w: the words of the slot that was touched
-    pub fed-sound : {w : List ℕ} {a : After} → isSound (length header) (length arena) (length index) (slotOf words) index ≡ true → length (c .property) ≤ 16383
+    pub fed-sound : {w : List ℕ} {a : SlotLeft} → isSound (length header) (length arena) (length index) (slotOf words) index ≡ true → length (c .property) ≤ 16383
         → w ≡ wordsOf (touched (slotOf words) (c .request-id) now-ms tick)
         → a ≡ placed (slotOf w) index header arena (record { request-id = slotOf w .«request_id»; header = c .header; num-chunks = c .num-chunks; chunk-num = c .chunk-num; property = c .property })
         (judge (length header) (length arena) (length index) (contents (slotOf w) index header arena)

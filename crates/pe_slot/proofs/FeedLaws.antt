@@ -15,12 +15,12 @@ use Rattle.seven_bit.specs.Reply.{granted, refused}
 use Rattle.seven_bit.proofs.PartLaws.{part-splice, length-splice, fit-yes, fit-front, put-is}
 use Rattle.pe_frame.specs.Chunk.{Chunk}
 use Rattle.pe_slot.specs.declared.records.Joined.{Joined}
-use Rattle.pe_slot.specs.declared.slot.TxSlot.{TxSlot}
+use Rattle.pe_slot.specs.declared.layout.TxSlot.{TxSlot}
 use Rattle.pe_slot.specs.Slot.{Piece, Verdict, allHeld, bodyOf, isWhole, eventOf, afterChunk}
 use Rattle.pe_slot.specs.Memory.{slotOf, packed, piecesOf, contents, endsAt}
 use Rattle.pe_slot.specs.Records.{joinedTold, joinedInto, JoinedInto, joinPieces}
-use Rattle.pe_slot.specs.Feed.{grown, still, lengths}
-use Rattle.pe_slot.specs.Steps.{cleared, finished, finishOf}
+use Rattle.pe_slot.specs.Feed.{grown, cleared, still, lengths}
+use Rattle.pe_slot.specs.Steps.{finished, finishOf}
 use Rattle.pe_slot.proofs.SlotMemory.{pieces-grown}
 
 -- what joining answers

@@ -2,7 +2,7 @@
 -- Assumes nothing.
 use Prim.Native.Nat.{ℕ, _+_, _<_, _≤_}
 use mathlib.Core.Bool.{Bool, true, false, cond, not, _&&_, _||_}
-use mathlib.Core.List.{List, []}
+use mathlib.Core.List.{List}
 use mathlib.Core.Option.{Option, none, some}
 use mathlib.Core.Path.{_≡_, refl, ap, _∙_}
 use native.Mathlib.Omega.{arith}
@@ -14,10 +14,10 @@ use Rattle.seven_bit.specs.Parts.{splice}
 use Rattle.seven_bit.specs.Reply.{refused}
 use Rattle.seven_bit.proofs.PartLaws.{length-splice}
 use Rattle.pe_frame.specs.Chunk.{Chunk}
-use Rattle.pe_slot.specs.declared.slot.TxSlot.{TxSlot}
-use Rattle.pe_slot.specs.Slot.{Verdict, slotAfter, judge}
+use Rattle.pe_slot.specs.declared.layout.TxSlot.{TxSlot}
+use Rattle.pe_slot.specs.Slot.{Verdict, emptySlot, slotAfter, judge}
 use Rattle.pe_slot.specs.Memory.{slotOf, wordsOf, piecesOf, contents, endsAt, isEnd, isSound}
-use Rattle.pe_slot.specs.Feed.{After, after, touched, grown, closed, placed, isShaped, feedSlot}
+use Rattle.pe_slot.specs.Feed.{SlotLeft, slotLeft, touched, grown, closedSlot, placed, isShaped, feedSlot}
 use Rattle.pe_slot.proofs.SlotMemory.{ends-grown}
 use Rattle.pe_slot.proofs.JudgeLaws.{Fitting, judge-fitting}
 use Rattle.pe_slot.proofs.FeedLaws.{newIndex, newArena, contents-grown, length-kept}
@@ -47,7 +47,7 @@ sound-open : (H B R : ℕ) (t : TxSlot) (index : List ℕ) → Sound H B R t ind
 unfolding isSound
 sound-open H B R t index s a = rw (le-leb _ _ (s .head), le-leb _ _ (s .held), le-leb _ _ (s .body), s .ends, eq-eqb (t .«property_bytes») (t .«property_bytes») refl, a)
 
-sound-closed : (H B R : ℕ) (t : TxSlot) (index : List ℕ) → isSound H B R (closed t) index ≡ true
+sound-closed : (H B R : ℕ) (t : TxSlot) (index : List ℕ) → isSound H B R (closedSlot t) index ≡ true
 unfolding isSound endsAt
 sound-closed H B R t index = rw (le-leb 0 H (omega arith), le-leb 0 R (omega arith), le-leb 0 B (omega arith))
 
@@ -63,13 +63,13 @@ module _ (t : TxSlot) (index header arena : List ℕ) (c : Chunk) (out-header ou
     (short : length (c .property) ≤ 16383) (named : c .chunk-num < 65536) where
   module _ (v : Verdict) (f : Fitting t index header arena c v) where
     follows :
-        (let a : After = placed t index header arena c v out-header out-body in
+        (let a : SlotLeft = placed t index header arena c v out-header out-body in
         contents (grown t c v) (a .index) (a .header) (a .arena) ≡ slotAfter (contents t index header arena) c v)
     unfolding placed
     follows = contents-grown t index header arena c (v .stores) (v .takes) (v .adds) (f .fits) (f .few) (f .room) (s .ends) named (omega arith)
 
     module _ (active : eqb (t .active) 0 ≡ false) where
-      either : (H B R : ℕ) (i : List ℕ) (b : Bool) (g : TxSlot) → isSound H B R g i ≡ true → isSound H B R (slotOf (wordsOf (cond b (closed g) g))) i ≡ true
+      either : (H B R : ℕ) (i : List ℕ) (b : Bool) (g : TxSlot) → isSound H B R g i ≡ true → isSound H B R (slotOf (wordsOf (cond b (closedSlot g) g))) i ≡ true
       either H B R i true g e = sound-closed H B R g i
       either H B R i false g e = e
 
@@ -100,7 +100,7 @@ module _ (t : TxSlot) (index header arena : List ℕ) (c : Chunk) (out-header ou
       adding false g h = record { same-index = refl; same-arena = refl; held = s .held; body = s .body; ends = s .ends }
 
       again :
-          (let a : After = placed t index header arena c v out-header out-body in
+          (let a : SlotLeft = placed t index header arena c v out-header out-body in
           isSound (length (a .header)) (length (a .arena)) (length (a .index)) (slotOf (a .words)) (a .index) ≡ true)
       unfolding placed
       again =
@@ -120,28 +120,28 @@ module _ (t : TxSlot) (index header arena : List ℕ) (c : Chunk) (out-header ou
   fitting = judge-fitting t index header arena c (s .held) (s .ends) (s .body)
 
   said-follows :
-      (let a : After = placed t index header arena c said out-header out-body in
+      (let a : SlotLeft = placed t index header arena c said out-header out-body in
       contents (grown t c said) (a .index) (a .header) (a .arena) ≡ slotAfter (contents t index header arena) c said)
   said-follows = follows t index header arena c out-header out-body s short named said fitting
 
   said-sound : eqb (t .active) 0 ≡ false →
-      (let a : After = placed t index header arena c said out-header out-body in
+      (let a : SlotLeft = placed t index header arena c said out-header out-body in
       isSound (length (a .header)) (length (a .arena)) (length (a .index)) (slotOf (a .words)) (a .index) ≡ true)
   said-sound active = again t index header arena c out-header out-body s short named said fitting active
 
-words-as : (b : Bool) (g : TxSlot) → b ≡ false → slotOf (wordsOf (cond b (closed g) g)) ≡ g
-words-as b g o = ap (λ (x : Bool). slotOf (wordsOf (cond x (closed g) g))) o
+words-as : (b : Bool) (g : TxSlot) → b ≡ false → slotOf (wordsOf (cond b (closedSlot g) g)) ≡ g
+words-as b g o = ap (λ (x : Bool). slotOf (wordsOf (cond x (closedSlot g) g))) o
 
 -- memory holds what the slot without memory holds, whatever the answer is, where the slot stays open
 module _ (t : TxSlot) (index header arena : List ℕ) (c : Chunk) (out-header out-body : List ℕ) where
   pub memory-follows : isSound (length header) (length arena) (length index) t index ≡ true → length (c .property) ≤ 16383 → c .chunk-num < 65536 →
       (let v : Verdict = judge (length header) (length arena) (length index) (contents t index header arena) c in
-      let a : After = placed t index header arena c v out-header out-body in
+      let a : SlotLeft = placed t index header arena c v out-header out-body in
       v .closes ≡ false → contents (slotOf (a .words)) (a .index) (a .header) (a .arena) ≡ slotAfter (contents t index header arena) c v)
   unfolding placed
   memory-follows e short named o =
       let v : Verdict = judge (length header) (length arena) (length index) (contents t index header arena) c in
-      let a : After = placed t index header arena c v out-header out-body in
+      let a : SlotLeft = placed t index header arena c v out-header out-body in
       ap (λ (x : TxSlot). contents x (a .index) (a .header) (a .arena)) (words-open v o)
       ∙ said-follows t index header arena c out-header out-body (sound-told _ _ _ t index e) short named
     where
@@ -150,28 +150,28 @@ module _ (t : TxSlot) (index header arena : List ℕ) (c : Chunk) (out-header ou
 
   -- and nothing where it closes
   pub memory-closed : (v : Verdict) → v .closes ≡ true →
-      (let a : After = placed t index header arena c v out-header out-body in
-      contents (slotOf (a .words)) (a .index) (a .header) (a .arena) ≡ record { header = none; count = 0; pieces = [] })
+      (let a : SlotLeft = placed t index header arena c v out-header out-body in
+      contents (slotOf (a .words)) (a .index) (a .header) (a .arena) ≡ emptySlot)
   unfolding placed contents piecesOf
   memory-closed v o = rw o
 
 -- a sound slot is sound after every feed, also when it closes
 pub sound-again : (words index header arena : List ℕ) (c : Chunk) (now-ms tick : ℕ) (out-header out-body : List ℕ) → c .chunk-num < 65536
     → isSound (length header) (length arena) (length index) (slotOf words) index ≡ true
-    → (let a : After = feedSlot words index header arena c now-ms tick out-header out-body in
+    → (let a : SlotLeft = feedSlot words index header arena c now-ms tick out-header out-body in
     isSound (length (a .header)) (length (a .arena)) (length (a .index)) (slotOf (a .words)) (a .index) ≡ true)
 unfolding feedSlot contents
 sound-again words index header arena c now-ms tick out-header out-body named e =
     rw e (go (isShaped words index header arena out-header out-body) (leb (length (c .property)) 16383) refl)
   where
     go : (shaped short : Bool) → leb (length (c .property)) 16383 ≡ short
-        → (let a : After =
+        → (let a : SlotLeft =
         cond shaped
         (cond short
         (placed (touched (slotOf words) (c .request-id) now-ms tick) index header arena c
         (judge (length header) (length arena) (length index) (contents (slotOf words) index header arena) c) out-header out-body)
-        (after (refused 1 0) words index header arena out-header out-body))
-        (after (refused 30 0) words index header arena out-header out-body) in
+        (slotLeft (refused 1 0) words index header arena out-header out-body))
+        (slotLeft (refused 30 0) words index header arena out-header out-body) in
         isSound (length (a .header)) (length (a .arena)) (length (a .index)) (slotOf (a .words)) (a .index) ≡ true)
     go false short q = e
     go true false q = e

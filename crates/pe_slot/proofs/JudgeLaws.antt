@@ -11,8 +11,8 @@ use lib.Dec.{leb, ltb, eqb}
 use lib.ListN.{length, take}
 use lib.Seq.{length-take-le}
 use Rattle.pe_frame.specs.Chunk.{Chunk}
-use Rattle.pe_slot.specs.declared.slot.TxSlot.{TxSlot}
-use Rattle.pe_slot.specs.Slot.{Slot, Verdict, stays, closing, _otherwise_then_, storing, taking, bodyLen, eqList, isNone, sameHeader, headerFits, headerAgrees, newHeader, countAgrees, newCount, afterChunk, passed, judge}
+use Rattle.pe_slot.specs.declared.layout.TxSlot.{TxSlot}
+use Rattle.pe_slot.specs.Slot.{Slot, Verdict, stays, closing, _otherwise_then_, storing, taking, bodyLen, eqList, noneKnown, sameHeader, headerFits, headerAgrees, newHeader, countAgrees, newCount, afterChunk, passed, judge}
 use Rattle.pe_slot.specs.Memory.{piecesOf, contents, endsAt}
 use Rattle.pe_slot.specs.Records.{holds}
 use Rattle.pe_slot.proofs.RecordLaws.{body-ends}
@@ -34,8 +34,8 @@ abbrev pub headerBy : Bool → Bool → Bool → Verdict → Verdict
 headerBy fits agrees stores v = fits otherwise stays 4 then agrees otherwise stays 8 then storing stores v
 
 -- the header that memory holds
-none-known : (b : Bool) (h : List ℕ) → isNone (cond b none (some h)) ≡ b
-unfolding isNone
+none-known : (b : Bool) (h : List ℕ) → noneKnown (cond b none (some h)) ≡ b
+unfolding noneKnown
 none-known true h = refl
 none-known false h = refl
 

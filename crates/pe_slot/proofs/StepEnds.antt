@@ -9,19 +9,16 @@ use borrow.Author.Tests.{leb-true, ltb-true}
 use lib.Dec.{leb, ltb, eqb}
 use lib.ListN.{length, take, set, length-set}
 use Rattle.seven_bit.specs.Parts.{splice}
-use Rattle.seven_bit.specs.Reply.{Reply, refused}
+use Rattle.seven_bit.specs.Reply.{Reply, granted, refused}
 use Rattle.seven_bit.proofs.PartLaws.{length-splice}
-use Rattle.pe_wire.specs.Errors.{peRefused}
-use Rattle.pe_wire.specs.declared.error.PeError.{PeError}
-use Rattle.pe_wire.specs.declared.error.PeError.the-variants.{HeaderTooLarge, Oversize, InconsistentChunking}
 use Rattle.pe_frame.specs.Chunk.{Chunk}
-use Rattle.pe_slot.specs.declared.slot.Asked.{Asked}
-use Rattle.pe_slot.specs.declared.slot.TxSlot.{TxSlot}
+use Rattle.pe_slot.specs.declared.layout.TxSlot.{TxSlot}
+use Rattle.pe_slot.specs.Layout.{numChunksAt, headerSetAt, headerLenAt, indexLenAt, propertyBytesAt}
 use Rattle.pe_slot.specs.Slot.{Verdict, eqList, passed, judge}
 use Rattle.pe_slot.specs.Memory.{slotOf, wordsOf, packed, contents}
 use Rattle.pe_slot.specs.Records.{holds}
-use Rattle.pe_slot.specs.Feed.{Told, After, after, grown, placed}
-use Rattle.pe_slot.specs.Steps.{Ready, cleared, HeaderTaken, headerTaken, takeHeader, CountTaken, countTaken, takeCount, PieceAdded, pieceAdded, addPiece, Finished, finished, finishOf}
+use Rattle.pe_slot.specs.Feed.{cleared, Told, still, SlotLeft, slotLeft, grown, placed}
+use Rattle.pe_slot.specs.Steps.{Ready, HeaderTaken, headerTaken, takeHeader, CountTaken, countTaken, takeCount, PieceAdded, pieceAdded, addPiece, Finished, finished, finishOf}
 use Rattle.pe_slot.proofs.SlotMemory.{ends-grown}
 use Rattle.pe_slot.proofs.SlotWords.{words-slot}
 use Rattle.pe_slot.proofs.JudgeLaws.{askedAs, judge-is}
@@ -37,10 +34,10 @@ module _ (t : TxSlot) {index header arena out-header out-body : List ℕ} (ready
           → (let k : HeaderTaken =
           cond o
           (cond f
-          (cond u (headerTaken Asked.Yes (set (set (wordsOf t) 5 1) 6 (length new)) (splice 0 (length new) header new))
-          (cond s (headerTaken Asked.Yes (wordsOf t) header) (headerTaken (Asked.No InconsistentChunking) (wordsOf t) header)))
-          (headerTaken (Asked.No HeaderTooLarge) (wordsOf t) header))
-          (headerTaken Asked.Yes (wordsOf t) header) in
+          (cond u (headerTaken (granted still) (set (set (wordsOf t) headerSetAt 1) headerLenAt (length new)) (splice 0 (length new) header new))
+          (cond s (headerTaken (granted still) (wordsOf t) header) (headerTaken (refused 8 0) (wordsOf t) header)))
+          (headerTaken (refused 4 0) (wordsOf t) header))
+          (headerTaken (granted still) (wordsOf t) header) in
           Ready (k .words) index (k .header) arena out-header out-body)
       go false f ef u s = ready
       go true false ef u s = ready
@@ -67,7 +64,7 @@ module _ (t : TxSlot) {index header arena out-header out-body : List ℕ} (ready
     where
       go : (n k : Bool)
           → Ready
-          (cond n (countTaken true (wordsOf t)) (cond k (countTaken true (set (wordsOf t) 4 count)) (countTaken (eqb (t .«num_chunks») count) (wordsOf t))) .words)
+          (cond n (countTaken true (wordsOf t)) (cond k (countTaken true (set (wordsOf t) numChunksAt count)) (countTaken (eqb (t .«num_chunks») count) (wordsOf t))) .words)
           index header arena out-header out-body
       go true k = ready
       go false true =
@@ -85,29 +82,29 @@ module _ (t : TxSlot) {index header arena out-header out-body : List ℕ} (ready
       go false false = ready
 
   piece-ready : (number : ℕ) (property : List ℕ) (held : Bool) → number < 65536 → length property < 65536
-      → (let k = addPiece (wordsOf t) index arena number property held in k .asked ≡ Asked.Yes → Ready (k .words) (k .index) header (k .arena) out-header out-body)
+      → (let k = addPiece (wordsOf t) index arena number property held in k .answer ≡ granted still → Ready (k .words) (k .index) header (k .arena) out-header out-body)
   unfolding addPiece
   piece-ready number property held named short =
       go (eqb number 0) held (ltb (t .«index_len») (length index)) refl (leb (t .«property_bytes» + length property) (length arena)) refl
     where
-      not-yes : {A : Type 0} (e : PeError) → Asked.No e ≡ Asked.Yes → A
-      not-yes e q = absurd (let z : _≡_ {A = ℕ} 0 1 = cc in omega arith)
+      not-yes : {A : Type 0} (number : ℕ) → _≡_ {A = Reply Told} (refused number 0) (granted still) → A
+      not-yes number q = absurd (let z : _≡_ {A = ℕ} 0 1 = cc in omega arith)
 
       go : (z h f : Bool) → ltb (t .«index_len») (length index) ≡ f → (r : Bool) → leb (t .«property_bytes» + length property) (length arena) ≡ r
           → (let k : PieceAdded =
-          cond z (pieceAdded (Asked.No InconsistentChunking) (cleared (wordsOf t)) index arena)
-          (cond h (pieceAdded (Asked.No InconsistentChunking) (wordsOf t) index arena)
+          cond z (pieceAdded (refused 8 0) (cleared (wordsOf t)) index arena)
+          (cond h (pieceAdded (refused 8 0) (wordsOf t) index arena)
           (cond f
           (cond r
-          (pieceAdded Asked.Yes (set (set (wordsOf t) 7 (t .«index_len» + 1)) 8 (t .«property_bytes» + length property))
+          (pieceAdded (granted still) (set (set (wordsOf t) indexLenAt (t .«index_len» + 1)) propertyBytesAt (t .«property_bytes» + length property))
           (set index (t .«index_len») (packed number (length property) (t .«property_bytes»))) (splice (t .«property_bytes») (length property) arena property))
-          (pieceAdded (Asked.No Oversize) (cleared (wordsOf t)) index arena))
-          (pieceAdded (Asked.No Oversize) (wordsOf t) index arena))) in
-          k .asked ≡ Asked.Yes → Ready (k .words) (k .index) header (k .arena) out-header out-body)
-      go true h f ef r er q = not-yes InconsistentChunking q
-      go false true f ef r er q = not-yes InconsistentChunking q
-      go false false false ef r er q = not-yes Oversize q
-      go false false true ef false er q = not-yes Oversize q
+          (pieceAdded (refused 5 0) (cleared (wordsOf t)) index arena))
+          (pieceAdded (refused 5 0) (wordsOf t) index arena))) in
+          k .answer ≡ granted still → Ready (k .words) (k .index) header (k .arena) out-header out-body)
+      go true h f ef r er q = not-yes 8 q
+      go false true f ef r er q = not-yes 8 q
+      go false false false ef r er q = not-yes 5 q
+      go false false true ef false er q = not-yes 5 q
       go false false true ef true er q =
           let few : t .«index_len» < length index = ltb-true (t .«index_len») (length index) ef in
           let room : t .«property_bytes» + length property ≤ length arena = leb-true (t .«property_bytes» + length property) (length arena) er in
@@ -137,7 +134,7 @@ module _ {words index header arena : List ℕ} {c : Chunk} {held : Bool} {out-he
   short-piece : length (c .property) < 65536
   short-piece = let s = r .short in omega arith
 
-  abbrev said : After
+  abbrev said : SlotLeft
   said = placed (slotOf words) index header arena c (judge (length header) (length arena) (length index) (contents (slotOf words) index header arena) c) out-header out-body
 
   fed-steps : afterHeader index header arena c held out-header out-body (takeHeader words header (c .chunk-num) (c .header)) ≡ said
@@ -148,12 +145,12 @@ module _ {words index header arena : List ℕ} {c : Chunk} {held : Bool} {out-he
       ∙ ap (λ (v : Verdict). placed (slotOf words) index header arena c v out-header out-body)
       (sym (judge-is (slotOf words) index header arena c (r .ready .held) (r .ready .ends) (r .ready .body)))
 
-  module _ {a : Asked} {w h : List ℕ} (k : headerTaken a w h ≡ takeHeader words header (c .chunk-num) (c .header)) where
-    header-as : (b : Asked) → a ≡ b → afterHeader index header arena c held out-header out-body (headerTaken b w h) ≡ said
-    header-as b q = ap (λ (x : Asked). afterHeader index header arena c held out-header out-body (headerTaken x w h)) (sym q) ∙ ap (afterHeader index header arena c held out-header out-body) k ∙ fed-steps
+  module _ {a : Reply Told} {w h : List ℕ} (k : headerTaken a w h ≡ takeHeader words header (c .chunk-num) (c .header)) where
+    header-as : (b : Reply Told) → a ≡ b → afterHeader index header arena c held out-header out-body (headerTaken b w h) ≡ said
+    header-as b q = ap (λ (x : Reply Told). afterHeader index header arena c held out-header out-body (headerTaken x w h)) (sym q) ∙ ap (afterHeader index header arena c held out-header out-body) k ∙ fed-steps
 
-    pub header-no : {e : PeError} → a ≡ Asked.No e → after (peRefused e) w index h arena out-header out-body ≡ said
-    header-no {e} q = header-as (Asked.No e) q
+    pub header-no : {number value : ℕ} → a ≡ refused number value → slotLeft (refused number value) w index h arena out-header out-body ≡ said
+    header-no q = header-as _ q
 
     pub ready-header : Ready w index h arena out-header out-body
     ready-header =
@@ -161,14 +158,14 @@ module _ {words index header arena : List ℕ} {c : Chunk} {held : Bool} {out-he
         (subst (λ (v : List ℕ). let x = takeHeader v header (c .chunk-num) (c .header) in Ready (x .words) index (x .header) arena out-header out-body) (sym (words-slot words (r .ready .nine)))
         (header-ready (slotOf words) (subst (λ (v : List ℕ). Ready v index header arena out-header out-body) (words-slot words (r .ready .nine)) (r .ready)) (c .chunk-num) (c .header)))
 
-    module _ (yes : a ≡ Asked.Yes) {b : Bool} {v : List ℕ} (l : countTaken b v ≡ takeCount w (c .num-chunks)) where
+    module _ (yes : a ≡ granted still) {b : Bool} {v : List ℕ} (l : countTaken b v ≡ takeCount w (c .num-chunks)) where
       count-as : (d : Bool) → b ≡ d → afterCount index header arena c held out-header out-body (countTaken d v) h ≡ said
       count-as d q =
           ap (λ (x : Bool). afterCount index header arena c held out-header out-body (countTaken x v) h) (sym q)
           ∙ ap (λ (x : CountTaken). afterCount index header arena c held out-header out-body x h) l
-          ∙ header-as Asked.Yes yes
+          ∙ header-as (granted still) yes
 
-      pub count-no : b ≡ false → after (refused 8 0) v index h arena out-header out-body ≡ said
+      pub count-no : b ≡ false → slotLeft (refused 8 0) v index h arena out-header out-body ≡ said
       count-no q = count-as false q
 
       pub ready-count : Ready v index h arena out-header out-body
@@ -177,24 +174,24 @@ module _ {words index header arena : List ℕ} {c : Chunk} {held : Bool} {out-he
           (subst (λ (x : List ℕ). Ready (takeCount x (c .num-chunks) .words) index h arena out-header out-body) (sym (words-slot w (ready-header .nine)))
           (count-ready (slotOf w) (subst (λ (x : List ℕ). Ready x index h arena out-header out-body) (words-slot w (ready-header .nine)) ready-header) (c .num-chunks)))
 
-      module _ (same : b ≡ true) {d : Asked} {x i m : List ℕ} (n : pieceAdded d x i m ≡ addPiece v index arena (c .chunk-num) (c .property) held) where
-        piece-as : (y : Asked) → d ≡ y → afterPiece index header arena c held out-header out-body (pieceAdded y x i m) h ≡ said
+      module _ (same : b ≡ true) {d : Reply Told} {x i m : List ℕ} (n : pieceAdded d x i m ≡ addPiece v index arena (c .chunk-num) (c .property) held) where
+        piece-as : (y : Reply Told) → d ≡ y → afterPiece index header arena c held out-header out-body (pieceAdded y x i m) h ≡ said
         piece-as y q =
-            ap (λ (z : Asked). afterPiece index header arena c held out-header out-body (pieceAdded z x i m) h) (sym q)
+            ap (λ (z : Reply Told). afterPiece index header arena c held out-header out-body (pieceAdded z x i m) h) (sym q)
             ∙ ap (λ (z : PieceAdded). afterPiece index header arena c held out-header out-body z h) n
             ∙ count-as true same
 
-        pub piece-no : {e : PeError} → d ≡ Asked.No e → after (peRefused e) x i h m out-header out-body ≡ said
-        piece-no {e} q = piece-as (Asked.No e) q
+        pub piece-no : {number value : ℕ} → d ≡ refused number value → slotLeft (refused number value) x i h m out-header out-body ≡ said
+        piece-no q = piece-as _ q
 
-        module _ (added : d ≡ Asked.Yes) where
+        module _ (added : d ≡ granted still) where
           pub ready-piece : Ready x i h m out-header out-body
           ready-piece =
               let w = words-slot v (ready-count .nine) in
-              subst (λ (z : PieceAdded). z .asked ≡ Asked.Yes → Ready (z .words) (z .index) h (z .arena) out-header out-body) (sym n)
-              (subst (λ (u : List ℕ). let z = addPiece u index arena (c .chunk-num) (c .property) held in z .asked ≡ Asked.Yes → Ready (z .words) (z .index) h (z .arena) out-header out-body) (sym w)
+              subst (λ (z : PieceAdded). z .answer ≡ granted still → Ready (z .words) (z .index) h (z .arena) out-header out-body) (sym n)
+              (subst (λ (u : List ℕ). let z = addPiece u index arena (c .chunk-num) (c .property) held in z .answer ≡ granted still → Ready (z .words) (z .index) h (z .arena) out-header out-body) (sym w)
               (piece-ready (slotOf v) (subst (λ (u : List ℕ). Ready u index h arena out-header out-body) w ready-count) (c .chunk-num) (c .property) held (r .named) short-piece))
               added
 
-          pub all-passed : {q : Reply Told} {y oh ob : List ℕ} → finished q y oh ob ≡ finishOf x (contents (slotOf x) i h m) out-header out-body → after q y i h m oh ob ≡ said
-          all-passed e = ap (λ (f : Finished). after (f .answer) (f .words) i h m (f .out-header) (f .out-body)) e ∙ piece-as Asked.Yes added
+          pub all-passed : {q : Reply Told} {y oh ob : List ℕ} → finished q y oh ob ≡ finishOf x (contents (slotOf x) i h m) out-header out-body → slotLeft q y i h m oh ob ≡ said
+          all-passed e = ap (λ (f : Finished). slotLeft (f .answer) (f .words) i h m (f .out-header) (f .out-body)) e ∙ piece-as (granted still) added

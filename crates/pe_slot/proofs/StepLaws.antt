@@ -8,55 +8,52 @@ use mathlib.Core.Path.{_≡_, refl}
 use borrow.Author.Tests.{leb-true, ltb-true}
 use lib.Dec.{leb, ltb, eqb}
 use lib.ListN.{length, take}
-use Rattle.seven_bit.specs.Reply.{refused}
-use Rattle.pe_wire.specs.Errors.{peRefused}
-use Rattle.pe_wire.specs.declared.error.PeError.{PeError}
+use Rattle.seven_bit.specs.Reply.{Reply, granted, refused}
 use Rattle.pe_frame.specs.Chunk.{Chunk}
-use Rattle.pe_slot.specs.declared.slot.Asked.{Asked}
-use Rattle.pe_slot.specs.declared.slot.TxSlot.{TxSlot}
+use Rattle.pe_slot.specs.declared.layout.TxSlot.{TxSlot}
 use Rattle.pe_slot.specs.Slot.{Slot, Verdict, storing, taking, isWhole, eqList, afterChunk, passed}
 use Rattle.pe_slot.specs.Memory.{slotOf, wordsOf, contents, endsAt}
-use Rattle.pe_slot.specs.Feed.{After, after, grown, closed, placed}
+use Rattle.pe_slot.specs.Feed.{Told, SlotLeft, slotLeft, grown, closedSlot, placed}
 use Rattle.pe_slot.specs.Steps.{HeaderTaken, takeHeader, CountTaken, takeCount, PieceAdded, addPiece, finishOf}
 use Rattle.pe_slot.proofs.JudgeLaws.{pieceBy, countBy, askedAs, never}
 use Rattle.pe_slot.proofs.FeedLaws.{leaving, newHeader, newIndex, newArena, contents-grown}
 
 -- a no ends the feed, with memory as it is then
-abbrev orNo : Asked → (PeError → After) → After → After
-orNo Asked.Yes ended more = more
-orNo (Asked.No e) ended more = ended e
+abbrev orNo : Reply Told → (Reply Told → SlotLeft) → SlotLeft → SlotLeft
+orNo (granted told) ended more = more
+orNo (refused number value) ended more = ended (refused number value)
 
 module _ (index header arena : List ℕ) (c : Chunk) (held : Bool) (out-header out-body : List ℕ) where
-  abbrev pub afterFinish : List ℕ → List ℕ → List ℕ → List ℕ → After
+  abbrev pub afterFinish : List ℕ → List ℕ → List ℕ → List ℕ → SlotLeft
   afterFinish w i h b =
       let f = finishOf w (contents (slotOf w) i h b) out-header out-body in
-      after (f .answer) (f .words) i h b (f .out-header) (f .out-body)
+      slotLeft (f .answer) (f .words) i h b (f .out-header) (f .out-body)
 
-  abbrev pub afterPiece : PieceAdded → List ℕ → After
+  abbrev pub afterPiece : PieceAdded → List ℕ → SlotLeft
   afterPiece a h =
-      orNo (a .asked) (λ e. after (peRefused e) (a .words) (a .index) h (a .arena) out-header out-body) (afterFinish (a .words) (a .index) h (a .arena))
+      orNo (a .answer) (λ no!. slotLeft no! (a .words) (a .index) h (a .arena) out-header out-body) (afterFinish (a .words) (a .index) h (a .arena))
 
-  abbrev pub afterCount : CountTaken → List ℕ → After
+  abbrev pub afterCount : CountTaken → List ℕ → SlotLeft
   afterCount k h =
       cond (k .agrees) (afterPiece (addPiece (k .words) index arena (c .chunk-num) (c .property) held) h)
-      (after (refused 8 0) (k .words) index h arena out-header out-body)
+      (slotLeft (refused 8 0) (k .words) index h arena out-header out-body)
 
-  abbrev pub afterHeader : HeaderTaken → After
+  abbrev pub afterHeader : HeaderTaken → SlotLeft
   afterHeader k =
-      orNo (k .asked) (λ e. after (peRefused e) (k .words) index (k .header) arena out-header out-body)
+      orNo (k .answer) (λ no!. slotLeft no! (k .words) index (k .header) arena out-header out-body)
       (afterCount (takeCount (k .words) (c .num-chunks)) (k .header))
 
   -- from the last step to the first; stores: whether the header was stored
   module _ (t : TxSlot) (laid : endsAt 0 (take (t .«index_len») index) ≡ some (t .«property_bytes»)) (named : c .chunk-num < 65536) (short : length (c .property) < 65536)
       (stores : Bool) (fits : stores ≡ true → length (c .header) ≤ length header) where
-    either : (b : Bool) (g : TxSlot) → cond b (wordsOf (closed g)) (wordsOf g) ≡ wordsOf (cond b (closed g) g)
+    either : (b : Bool) (g : TxSlot) → cond b (wordsOf (closedSlot g)) (wordsOf g) ≡ wordsOf (cond b (closedSlot g) g)
     either true g = refl
     either false g = refl
 
     -- what is told of a slot with its piece
     told-as : (takes : Bool) (s : Slot)
         → (let f = finishOf (wordsOf (grown t c (leaving stores takes true))) s out-header out-body in
-        after (f .answer) (f .words) (newIndex t index header arena c true) (newHeader t index header arena c stores) (newArena t index header arena c true) (f .out-header) (f .out-body))
+        slotLeft (f .answer) (f .words) (newIndex t index header arena c true) (newHeader t index header arena c stores) (newArena t index header arena c true) (f .out-header) (f .out-body))
         ≡ placed t index header arena c (storing stores (taking takes (passed s))) out-header out-body
     unfolding placed finishOf passed
     told-as takes s = rw (either (isWhole (s .header) (s .count) (s .pieces)) (grown t c (leaving stores takes true)))

@@ -9,8 +9,9 @@ use Rattle.seven_bit.specs.Parts.{splice}
 use Rattle.seven_bit.specs.Reply.{Reply, granted, refused}
 use Rattle.pe_wire.specs.Errors.{peRefused}
 use Rattle.pe_frame.specs.Chunk.{Chunk}
-use Rattle.pe_slot.specs.declared.slot.TxSlot.{TxSlot}
+use Rattle.pe_slot.specs.declared.layout.TxSlot.{TxSlot}
 use Rattle.pe_slot.specs.declared.slot.Fed.{Fed}
+use Rattle.pe_slot.specs.Layout.{slotWords}
 use Rattle.pe_slot.specs.Slot.{Event, waiting, whole, Verdict, judge}
 use Rattle.pe_slot.specs.Memory.{slotOf, wordsOf, packed, contents, isSound}
 
@@ -45,8 +46,8 @@ grown t c v =
     }
 
 -- "Closing zeroes id, time, count and lengths and leaves no header known; tick and old bytes stay."
-abbrev pub closed : TxSlot → TxSlot
-closed t =
+abbrev pub closedSlot : TxSlot → TxSlot
+closedSlot t =
     record {
       active = 0;
       «request_id» = 0;
@@ -58,6 +59,14 @@ closed t =
       «index_len» = 0;
       «property_bytes» = 0;
     }
+
+-- The words of a slot that closes.
+abbrev pub cleared : List ℕ → List ℕ
+cleared words = wordsOf (closedSlot (slotOf words))
+
+-- Words that are not those of a slot stay.
+unfoldable pub closeWords : List ℕ → List ℕ
+closeWords words = cond (eqb (length words) slotWords) (cleared words) words
 
 -- An answer in numbers: waiting, or the two lengths of a whole list.
 pub data Told : Type 0 where
@@ -78,7 +87,7 @@ fedTold (Fed.Whole header-len body-len) = granted (lengths header-len body-len)
 fedTold (Fed.Refused e) = peRefused e
 
 -- The answer with a slot's memory and the two outputs as they are then.
-pub record After : Type 0 where
+pub record SlotLeft : Type 0 where
   pub answer : Reply Told
   pub words : List ℕ
   pub index : List ℕ
@@ -87,8 +96,8 @@ pub record After : Type 0 where
   pub out-header : List ℕ
   pub out-body : List ℕ
 
-abbrev pub after : Reply Told → List ℕ → List ℕ → List ℕ → List ℕ → List ℕ → List ℕ → After
-after answer words index header arena out-header out-body =
+abbrev pub slotLeft : Reply Told → List ℕ → List ℕ → List ℕ → List ℕ → List ℕ → List ℕ → SlotLeft
+slotLeft answer words index header arena out-header out-body =
     record { answer = answer; words = words; index = index; header = header; arena = arena; out-header = out-header; out-body = out-body }
 
 -- "the outputs begin with exactly its header and body"; waiting and refusals leave them
@@ -103,11 +112,11 @@ outBody (granted (whole header body)) out = body ++ drop (length body) out
 outBody (refused number value) out = out
 
 -- The rooms are as long as the shape says: H, B and R are their lengths.
-unfoldable pub placed : TxSlot → List ℕ → List ℕ → List ℕ → Chunk → Verdict → List ℕ → List ℕ → After
+unfoldable pub placed : TxSlot → List ℕ → List ℕ → List ℕ → Chunk → Verdict → List ℕ → List ℕ → SlotLeft
 placed t index header arena c v out-header out-body =
-    after
+    slotLeft
     (toldAnswer (v .answer))
-    (wordsOf (cond (v .closes) (closed (grown t c v)) (grown t c v)))
+    (wordsOf (cond (v .closes) (closedSlot (grown t c v)) (grown t c v)))
     (cond (v .adds) (set index (t .«index_len») (packed (c .chunk-num) (length (c .property)) (t .«property_bytes»))) index)
     (cond (v .stores) (splice 0 (length (c .header)) header (c .header)) header)
     (cond (v .adds) (splice (t .«property_bytes») (length (c .property)) arena (c .property)) arena)
@@ -117,7 +126,7 @@ placed t index header arena c v out-header out-body =
 -- Are the parts those of a slot, and the outputs long enough?
 unfoldable pub isShaped : List ℕ → List ℕ → List ℕ → List ℕ → List ℕ → List ℕ → Bool
 isShaped words index header arena out-header out-body =
-    eqb (length words) 9
+    eqb (length words) slotWords
     && leb (length index) 2048
     && leb (length header) 4096
     && leb (length arena) 65536
@@ -125,19 +134,19 @@ isShaped words index header arena out-header out-body =
     && leb (length arena) (length out-body)
 
 -- A chunk reaches a sound slot: time and tick are set, the slot's questions are put to what it holds, and their verdict is carried out.
-abbrev pub reachedSlot : List ℕ → List ℕ → List ℕ → List ℕ → Chunk → ℕ → ℕ → List ℕ → List ℕ → After
+abbrev pub reachedSlot : List ℕ → List ℕ → List ℕ → List ℕ → Chunk → ℕ → ℕ → List ℕ → List ℕ → SlotLeft
 reachedSlot words index header arena c now-ms tick out-header out-body =
     placed (touched (slotOf words) (c .request-id) now-ms tick) index header arena c
     (judge (length header) (length arena) (length index) (contents (slotOf words) index header arena) c)
     out-header out-body
 
 -- Questions 30 and 31, the length that a record can hold (1, which no chunk that was read fails), then the slot's own.
-unfoldable pub feedSlot : List ℕ → List ℕ → List ℕ → List ℕ → Chunk → ℕ → ℕ → List ℕ → List ℕ → After
+unfoldable pub feedSlot : List ℕ → List ℕ → List ℕ → List ℕ → Chunk → ℕ → ℕ → List ℕ → List ℕ → SlotLeft
 feedSlot words index header arena c now-ms tick out-header out-body =
     cond (isShaped words index header arena out-header out-body)
     (cond (isSound (length header) (length arena) (length index) (slotOf words) index)
     (cond (leb (length (c .property)) 16383)
     (reachedSlot words index header arena c now-ms tick out-header out-body)
-    (after (refused 1 0) words index header arena out-header out-body))
-    (after (refused 31 0) words index header arena out-header out-body))
-    (after (refused 30 0) words index header arena out-header out-body)
+    (slotLeft (refused 1 0) words index header arena out-header out-body))
+    (slotLeft (refused 31 0) words index header arena out-header out-body))
+    (slotLeft (refused 30 0) words index header arena out-header out-body)

@@ -1,3 +1,4 @@
+pub mod Layout
 pub mod Slot
 pub mod Memory
 pub mod Feed

@@ -1,4 +1,4 @@
--- How a slot lies in lent memory: nine words, its records, its header room and its arena.
+-- How a slot lies in lent memory: its words, its records, its header room and its arena.
 -- Assumes nothing.
 use Prim.Native.Nat.{ℕ, _+_, _*_, _/_, _%_}
 use mathlib.Core.Bool.{Bool, true, false, cond, not, _&&_, _||_}
@@ -7,22 +7,23 @@ use mathlib.Core.Option.{Option, none, some}
 use lib.Dec.{leb, eqb}
 use lib.ListN.{length, getD, take}
 use Rattle.seven_bit.specs.Parts.{part}
-use Rattle.pe_slot.specs.declared.slot.TxSlot.{TxSlot}
+use Rattle.pe_slot.specs.declared.layout.TxSlot.{TxSlot}
+use Rattle.pe_slot.specs.Layout.{activeAt, requestIdAt, lastActivityAt, lruTickAt, numChunksAt, headerSetAt, headerLenAt, indexLenAt, propertyBytesAt}
 use Rattle.pe_slot.specs.Slot.{Piece, Slot}
 
 -- The words in their order.
 abbrev pub slotOf : List ℕ → TxSlot
 slotOf w =
     record {
-      active = getD w 0 0;
-      «request_id» = getD w 1 0;
-      «last_activity_ms» = getD w 2 0;
-      «lru_tick» = getD w 3 0;
-      «num_chunks» = getD w 4 0;
-      «header_set» = getD w 5 0;
-      «header_len» = getD w 6 0;
-      «index_len» = getD w 7 0;
-      «property_bytes» = getD w 8 0;
+      active = getD w activeAt 0;
+      «request_id» = getD w requestIdAt 0;
+      «last_activity_ms» = getD w lastActivityAt 0;
+      «lru_tick» = getD w lruTickAt 0;
+      «num_chunks» = getD w numChunksAt 0;
+      «header_set» = getD w headerSetAt 0;
+      «header_len» = getD w headerLenAt 0;
+      «index_len» = getD w indexLenAt 0;
+      «property_bytes» = getD w propertyBytesAt 0;
     }
 
 abbrev pub wordsOf : TxSlot → List ℕ

@@ -21,6 +21,10 @@ pub record Slot : Type 0 where
   pub count : ℕ
   pub pieces : List Piece
 
+-- A slot as it is opened.
+abbrev pub emptySlot : Slot
+emptySlot = record { header = none; count = 0; pieces = [] }
+
 -- Is the number held?
 unfoldable pub held : ℕ → List Piece → Bool
 held n [] = false
@@ -106,13 +110,13 @@ sameHeader (some old) new = eqList old new
 unfoldable pub headerAgrees : Slot → Chunk → Bool
 headerAgrees s c = not (eqb (c .chunk-num) 1) || sameHeader (s .header) (c .header)
 
-unfoldable pub isNone : Option (List ℕ) → Bool
-isNone none = true
-isNone (some h) = false
+unfoldable pub noneKnown : Option (List ℕ) → Bool
+noneKnown none = true
+noneKnown (some h) = false
 
 -- "it is then stored"
 unfoldable pub newHeader : Slot → Chunk → Bool
-newHeader s c = eqb (c .chunk-num) 1 && isNone (s .header)
+newHeader s c = eqb (c .chunk-num) 1 && noneKnown (s .header)
 
 -- "Count 0, or none known, or the same?"
 unfoldable pub countAgrees : Slot → Chunk → Bool

@@ -1,4 +1,4 @@
--- What the private steps of a feed say: the answer, and the memory that the step may change. Words are named by their places in a slot's nine.
+-- What the private steps of a feed say: the answer, and the memory that the step may change.
 -- Assumes nothing.
 use Prim.Native.Nat.{ℕ, _+_, _≤_}
 use mathlib.Core.Bool.{Bool, true, cond, not, _&&_, _||_}
@@ -8,12 +8,13 @@ use mathlib.Core.Path.{_≡_}
 use lib.Dec.{leb, ltb, eqb}
 use lib.ListN.{length, take, set}
 use Rattle.seven_bit.specs.Parts.{splice}
-use Rattle.seven_bit.specs.Reply.{Reply, granted}
-use Rattle.pe_wire.specs.declared.error.PeError.the-variants.{HeaderTooLarge, Oversize, InconsistentChunking}
+use Rattle.seven_bit.specs.Reply.{Reply, granted, refused}
+use Rattle.pe_wire.specs.Errors.{peRefused}
 use Rattle.pe_slot.specs.declared.slot.Asked.{Asked}
+use Rattle.pe_slot.specs.Layout.{slotWords, numChunksAt, headerSetAt, headerLenAt, indexLenAt, propertyBytesAt}
 use Rattle.pe_slot.specs.Slot.{Slot, eqList, isWhole, eventOf}
-use Rattle.pe_slot.specs.Memory.{slotOf, wordsOf, packed, endsAt}
-use Rattle.pe_slot.specs.Feed.{Told, toldAnswer, outHeader, outBody, closed}
+use Rattle.pe_slot.specs.Memory.{slotOf, packed, endsAt}
+use Rattle.pe_slot.specs.Feed.{Told, still, toldAnswer, outHeader, outBody, cleared}
 
 -- The part of question 31 that needs no pass over the records.
 abbrev pub isBounded : ℕ → ℕ → ℕ → ℕ → ℕ → ℕ → ℕ → Bool
@@ -25,7 +26,7 @@ isBounded H B R active header-len index-len property-bytes =
 
 -- A slot's memory is sound, and the outputs have room.
 pub record Ready (words index header arena out-header out-body : List ℕ) : Type 0 where
-  pub nine : length words ≡ 9
+  pub nine : length words ≡ slotWords
   pub head : slotOf words .«header_len» ≤ length header
   pub held : slotOf words .«index_len» ≤ length index
   pub records : length index ≤ 2048
@@ -35,32 +36,33 @@ pub record Ready (words index header arena out-header out-body : List ℕ) : Typ
   pub header-room : length header ≤ length out-header
   pub body-room : length arena ≤ length out-body
 
--- The words of a slot that closes.
-abbrev pub cleared : List ℕ → List ℕ
-cleared words = wordsOf (closed (slotOf words))
+-- A step's answer in numbers: with a yes nothing is told yet, and a no is the feed's answer.
+abbrev pub askedTold : Asked → Reply Told
+askedTold Asked.Yes = granted still
+askedTold (Asked.No e) = peRefused e
 
--- Chunk 1's header: 4 where it is too long; it is stored where none is known (words 5 and 6), and else the same, or 8.
+-- Chunk 1's header: 4 where it is too long; it is stored where none is known, and else the same, or 8.
 pub record HeaderTaken : Type 0 where
-  pub asked : Asked
+  pub answer : Reply Told
   pub words : List ℕ
   pub header : List ℕ
 
-abbrev pub headerTaken : Asked → List ℕ → List ℕ → HeaderTaken
-headerTaken asked words header = record { asked = asked; words = words; header = header }
+abbrev pub headerTaken : Reply Told → List ℕ → List ℕ → HeaderTaken
+headerTaken answer words header = record { answer = answer; words = words; header = header }
 
 unfoldable pub takeHeader : List ℕ → List ℕ → ℕ → List ℕ → HeaderTaken
 takeHeader words header number new =
     cond (eqb number 1)
     (cond (leb (length new) (length header))
     (cond (eqb (slotOf words .«header_set») 0)
-    (headerTaken Asked.Yes (set (set words 5 1) 6 (length new)) (splice 0 (length new) header new))
+    (headerTaken (granted still) (set (set words headerSetAt 1) headerLenAt (length new)) (splice 0 (length new) header new))
     (cond (eqList (take (slotOf words .«header_len») header) new)
-    (headerTaken Asked.Yes words header)
-    (headerTaken (Asked.No InconsistentChunking) words header)))
-    (headerTaken (Asked.No HeaderTooLarge) words header))
-    (headerTaken Asked.Yes words header)
+    (headerTaken (granted still) words header)
+    (headerTaken (refused 8 0) words header)))
+    (headerTaken (refused 4 0) words header))
+    (headerTaken (granted still) words header)
 
--- The count: taken where none is known (word 4), and else 0 or the same.
+-- The count: taken where none is known, and else 0 or the same.
 pub record CountTaken : Type 0 where
   pub agrees : Bool
   pub words : List ℕ
@@ -71,31 +73,31 @@ countTaken agrees words = record { agrees = agrees; words = words }
 unfoldable pub takeCount : List ℕ → ℕ → CountTaken
 takeCount words count =
     cond (eqb count 0) (countTaken true words)
-    (cond (eqb (slotOf words .«num_chunks») 0) (countTaken true (set words 4 count))
+    (cond (eqb (slotOf words .«num_chunks») 0) (countTaken true (set words numChunksAt count))
     (countTaken (eqb (slotOf words .«num_chunks») count) words))
 
--- The piece: number not 0, not held, fewer than R records (words 7 and 8), body still at most B.
+-- The piece: number not 0, not held, fewer than R records, body still at most B.
 pub record PieceAdded : Type 0 where
-  pub asked : Asked
+  pub answer : Reply Told
   pub words : List ℕ
   pub index : List ℕ
   pub arena : List ℕ
 
-abbrev pub pieceAdded : Asked → List ℕ → List ℕ → List ℕ → PieceAdded
-pieceAdded asked words index arena = record { asked = asked; words = words; index = index; arena = arena }
+abbrev pub pieceAdded : Reply Told → List ℕ → List ℕ → List ℕ → PieceAdded
+pieceAdded answer words index arena = record { answer = answer; words = words; index = index; arena = arena }
 
 unfoldable pub addPiece : List ℕ → List ℕ → List ℕ → ℕ → List ℕ → Bool → PieceAdded
 addPiece words index arena number property held =
-    cond (eqb number 0) (pieceAdded (Asked.No InconsistentChunking) (cleared words) index arena)
-    (cond held (pieceAdded (Asked.No InconsistentChunking) words index arena)
+    cond (eqb number 0) (pieceAdded (refused 8 0) (cleared words) index arena)
+    (cond held (pieceAdded (refused 8 0) words index arena)
     (cond (ltb (slotOf words .«index_len») (length index))
     (cond (leb (slotOf words .«property_bytes» + length property) (length arena))
-    (pieceAdded Asked.Yes
-    (set (set words 7 (slotOf words .«index_len» + 1)) 8 (slotOf words .«property_bytes» + length property))
+    (pieceAdded (granted still)
+    (set (set words indexLenAt (slotOf words .«index_len» + 1)) propertyBytesAt (slotOf words .«property_bytes» + length property))
     (set index (slotOf words .«index_len») (packed number (length property) (slotOf words .«property_bytes»)))
     (splice (slotOf words .«property_bytes») (length property) arena property))
-    (pieceAdded (Asked.No Oversize) (cleared words) index arena))
-    (pieceAdded (Asked.No Oversize) words index arena)))
+    (pieceAdded (refused 5 0) (cleared words) index arena))
+    (pieceAdded (refused 5 0) words index arena)))
 
 -- What the last step leaves.
 pub record Finished : Type 0 where

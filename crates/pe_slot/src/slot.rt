@@ -1,4 +1,17 @@
 // One slot: question 31, the questions of a chunk, completeness, joining.
+use super::layout::ACTIVE;
+use super::layout::HEADER_LEN;
+use super::layout::HEADER_SET;
+use super::layout::INDEX_LEN;
+use super::layout::LAST_ACTIVITY_MS;
+use super::layout::LRU_TICK;
+use super::layout::MAX_FRAGMENT_RECORDS;
+use super::layout::MAX_HEADER_BYTES;
+use super::layout::MAX_TX_BYTES;
+use super::layout::NUM_CHUNKS;
+use super::layout::PROPERTY_BYTES;
+use super::layout::REQUEST_ID;
+use super::layout::SLOT_WORDS;
 use super::records::Joined;
 use super::records::join;
 use super::records::pack;
@@ -10,52 +23,20 @@ ghost use mathlib.Core.Path.{_≡_};
 ghost use Prim.Native.Nat.{_≤_};
 ghost use lib.Dec.{leb, eqb};
 ghost use lib.ListN.{length, take};
+ghost use Rattle.pe_slot.specs.Layout.{slotWords};
 ghost use Rattle.pe_slot.specs.Slot.{eqList, judge};
 ghost use Rattle.pe_slot.specs.Memory.{slotOf, wordsOf, contents};
-ghost use Rattle.pe_slot.specs.Feed.{after, feedSlot, fedTold, placed, touched, closed};
+ghost use Rattle.pe_slot.specs.Feed.{slotLeft, feedSlot, fedTold, placed, touched, closeWords};
 ghost use Rattle.pe_slot.specs.Records.{holds};
 ghost use Rattle.pe_frame.specs.Chunk.{chunkFrom};
-ghost use Rattle.pe_slot.specs.Steps.{isBounded, Ready, headerTaken, takeHeader, countTaken, takeCount, pieceAdded, addPiece, finished, finishOf};
+ghost use Rattle.pe_slot.specs.Steps.{isBounded, Ready, askedTold, headerTaken, takeHeader, countTaken, takeCount};
+ghost use Rattle.pe_slot.specs.Steps.{pieceAdded, addPiece, finished, finishOf};
 
-const SLOT_WORDS: usize = 9;
-
-const MAX_HEADER_BYTES: usize = 4096;
-
-const MAX_TX_BYTES: usize = 65_536;
-
-const MAX_FRAGMENT_RECORDS: usize = 2048;
-
-// The nine words of a slot.
-pub struct TxSlot {
-    pub active: u64,
-    pub request_id: u64,
-    pub last_activity_ms: u64,
-    pub lru_tick: u64,
-    pub num_chunks: u64,
-    pub header_set: u64,
-    pub header_len: u64,
-    pub index_len: u64,
-    pub property_bytes: u64,
+// When a chunk comes: the time, and the tick that it gives its slot.
+pub struct Moment {
+    pub now_ms: u64,
+    pub tick: u64,
 }
-
-// The places of its words.
-const ACTIVE: usize = 0;
-
-const REQUEST_ID: usize = 1;
-
-const LAST_ACTIVITY_MS: usize = 2;
-
-const LRU_TICK: usize = 3;
-
-const NUM_CHUNKS: usize = 4;
-
-const HEADER_SET: usize = 5;
-
-const HEADER_LEN: usize = 6;
-
-const INDEX_LEN: usize = 7;
-
-const PROPERTY_BYTES: usize = 8;
 
 // What feeding a chunk answers: Whole has the lengths of header and body in the outputs.
 pub enum Fed {
@@ -73,7 +54,8 @@ fn is_shaped(
     out_header: usize,
     out_body: usize,
 ) -> bool
-    ensures { λ r. ⌜ r ≡ (eqb words 9 && leb index 2048 && leb header 4096 && leb arena 65536 && leb header «out_header» && leb arena «out_body») ⌝ }
+    ensures { λ r. ⌜ r ≡ (eqb words slotWords && leb index 2048 && leb header 4096 && leb arena 65536
+        && leb header «out_header» && leb arena «out_body») ⌝ }
 {
     if words != SLOT_WORDS {
         return false;
@@ -153,11 +135,13 @@ pub(crate) enum Asked {
     No(PeError),
 }
 
-// Closes the slot: all words but the tick become 0.
-fn clear(words: &mut [u64])
-    requires { ⌜ length (now words) ≡ 9 ⌝ }
-    ensures { λ _. ⌜ now (words .exit) ≡ wordsOf (closed (slotOf (now (words .entry)))) ⌝ }
+// Closes a slot: all its words but the tick become 0. Words of another length are left as they are.
+pub fn close(words: &mut [u64])
+    ensures { λ _. ⌜ now (words .exit) ≡ closeWords (now (words .entry)) ⌝ }
 {
+    if words.len() != SLOT_WORDS {
+        return;
+    }
     words[ACTIVE] = 0;
     words[REQUEST_ID] = 0;
     words[LAST_ACTIVITY_MS] = 0;
@@ -169,13 +153,13 @@ fn clear(words: &mut [u64])
 }
 
 // Time and tick are set, and a free slot is opened.
-fn touch(words: &mut [u64], request_id: u8, now_ms: u64, tick: u64)
-    requires { ⌜ length (now words) ≡ 9 ⌝ }
-    ensures { λ _. ⌜ now (words .exit) ≡ wordsOf (touched (slotOf (now (words .entry))) «request_id» «now_ms» tick) ⌝ }
+fn touch(words: &mut [u64], request_id: u8, moment: Moment)
+    requires { ⌜ length (now words) ≡ slotWords ⌝ }
+    ensures { λ _. ⌜ now (words .exit) ≡ wordsOf (touched (slotOf (now (words .entry))) «request_id» (moment .«now_ms») (moment .tick)) ⌝ }
 {
     words[REQUEST_ID] = request_id as u64;
-    words[LAST_ACTIVITY_MS] = now_ms;
-    words[LRU_TICK] = tick;
+    words[LAST_ACTIVITY_MS] = moment.now_ms;
+    words[LRU_TICK] = moment.tick;
     if words[ACTIVE] == 0 {
         words[ACTIVE] = 1;
     }
@@ -183,8 +167,8 @@ fn touch(words: &mut [u64], request_id: u8, now_ms: u64, tick: u64)
 
 // Chunk 1: does its header fit, and is it the one that is known? The first is stored.
 fn take_header(words: &mut [u64], header: &mut [u8], chunk_num: u16, chunk_header: &[u8]) -> Asked
-    requires { ⌜ (length (now words) ≡ 9) × (slotOf (now words) .«header_len» ≤ length (now header)) ⌝ }
-    ensures { λ r. ⌜ headerTaken r (now (words .exit)) (now (header .exit))
+    requires { ⌜ (length (now words) ≡ slotWords) × (slotOf (now words) .«header_len» ≤ length (now header)) ⌝ }
+    ensures { λ r. ⌜ headerTaken (askedTold r) (now (words .exit)) (now (header .exit))
         ≡ takeHeader (now (words .entry)) (now (header .entry)) «chunk_num» (now («chunk_header» .entry)) ⌝ }
 {
     if chunk_num != 1 {
@@ -208,7 +192,7 @@ fn take_header(words: &mut [u64], header: &mut [u8], chunk_num: u16, chunk_heade
 
 // Is the chunk's count 0, or the one that is known? The first is taken.
 fn take_count(words: &mut [u64], num_chunks: u16) -> bool
-    requires { ⌜ length (now words) ≡ 9 ⌝ }
+    requires { ⌜ length (now words) ≡ slotWords ⌝ }
     ensures { λ r. ⌜ countTaken r (now (words .exit)) ≡ takeCount (now (words .entry)) «num_chunks» ⌝ }
 {
     if num_chunks == 0 {
@@ -230,14 +214,13 @@ fn add_piece(
     property: &[u8],
     held: bool,
 ) -> Asked
-    requires { ⌜ (length (now words)
-        ≡ 9) × (length (now arena) ≤ 65536) × (slotOf (now words) .«property_bytes» ≤ length (now arena))
-        × (length (now property) ≤ 16383) ⌝ }
-    ensures { λ r. ⌜ pieceAdded r (now (words .exit)) (now (index .exit)) (now (arena .exit))
+    requires { ⌜ (length (now words) ≡ slotWords) × (length (now arena) ≤ 65536)
+        × (slotOf (now words) .«property_bytes» ≤ length (now arena)) × (length (now property) ≤ 16383) ⌝ }
+    ensures { λ r. ⌜ pieceAdded (askedTold r) (now (words .exit)) (now (index .exit)) (now (arena .exit))
         ≡ addPiece (now (words .entry)) (now (index .entry)) (now (arena .entry)) «chunk_num» (now (property .entry)) held ⌝ }
 {
     if chunk_num == 0 {
-        clear(words);
+        close(words);
         return Asked::No(PeError::InconsistentChunking);
     }
     if held {
@@ -250,7 +233,7 @@ fn add_piece(
     let at = words[PROPERTY_BYTES] as usize;
     let end = at + property.len();
     if end > arena.len() {
-        clear(words);
+        close(words);
         return Asked::No(PeError::Oversize);
     }
     index[len] = pack(chunk_num, property.len(), at);
@@ -283,17 +266,13 @@ fn finish(
         return Fed::Waiting;
     }
     let len = words[INDEX_LEN];
-    // fewer records than the count can't hold every number
-    if len < count {
-        return Fed::Waiting;
-    }
     let end = words[PROPERTY_BYTES] as usize;
     let Joined::Body(body_len) = join(count, index, len as usize, end, arena, out_body) else {
         return Fed::Waiting;
     };
     let header_len = words[HEADER_LEN] as usize;
     seven_bit::copy_in(out_header, 0, &header[..header_len]);
-    clear(words);
+    close(words);
     Fed::Whole(header_len, body_len)
 }
 
@@ -313,7 +292,7 @@ fn feed_sound(
 ) -> Fed
     requires { ⌜ Ready (now words) (now index) (now header) (now arena) (now «out_header») (now «out_body») ⌝ }
     requires { ⌜ (length (now property) ≤ 16383) × (held ≡ holds «chunk_num» (take (slotOf (now words) .«index_len») (now index))) ⌝ }
-    ensures { λ r. ⌜ after (fedTold r) (now (words .exit)) (now (index .exit)) (now (header .exit)) (now (arena .exit))
+    ensures { λ r. ⌜ slotLeft (fedTold r) (now (words .exit)) (now (index .exit)) (now (header .exit)) (now (arena .exit))
         (now («out_header» .exit)) (now («out_body» .exit))
         ≡ placed (slotOf (now (words .entry))) (now (index .entry)) (now (header .entry)) (now (arena .entry))
         (chunkFrom (slotOf (now (words .entry)) .«request_id») (now («chunk_header» .entry)) «num_chunks» «chunk_num»
@@ -355,16 +334,15 @@ pub fn feed_slot(
     num_chunks: u16,
     chunk_num: u16,
     property: &[u8],
-    now_ms: u64,
-    tick: u64,
+    moment: Moment,
     out_header: &mut [u8],
     out_body: &mut [u8],
 ) -> Fed
-    ensures { λ r. ⌜ after (fedTold r) (now (words .exit)) (now (index .exit)) (now (header .exit)) (now (arena .exit))
+    ensures { λ r. ⌜ slotLeft (fedTold r) (now (words .exit)) (now (index .exit)) (now (header .exit)) (now (arena .exit))
         (now («out_header» .exit)) (now («out_body» .exit))
         ≡ feedSlot (now (words .entry)) (now (index .entry)) (now (header .entry)) (now (arena .entry))
-        (chunkFrom «request_id» (now («chunk_header» .entry)) «num_chunks» «chunk_num» (now (property .entry))) «now_ms» tick
-        (now («out_header» .entry)) (now («out_body» .entry)) ⌝ }
+        (chunkFrom «request_id» (now («chunk_header» .entry)) «num_chunks» «chunk_num» (now (property .entry))) (moment .«now_ms»)
+        (moment .tick) (now («out_header» .entry)) (now («out_body» .entry)) ⌝ }
 {
     if !is_shaped(
         words.len(),
@@ -397,7 +375,7 @@ pub fn feed_slot(
     if property.len() > U14_MAX as usize {
         return Fed::Refused(PeError::BadField);
     }
-    touch(words, request_id, now_ms, tick);
+    touch(words, request_id, moment);
     feed_sound(
         words,
         index,

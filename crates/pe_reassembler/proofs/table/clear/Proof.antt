@@ -4,7 +4,8 @@ use borrow.Author.Needs.{needs}
 use Rattle.pe_reassembler.proofs.table.clear.Statement.{statement}
 use Rattle.pe_reassembler.proofs.table.clear.Tie as tie
 use denote.Ref.{now}
-use Rattle.pe_slot.proofs.SlotWords.{clear-words}
+use mathlib.Core.Path.{_∙_}
+use Rattle.pe_slot.proofs.SlotWords.{close-zeroed, close-nine}
 
 slice-write-words : tie.Need-slice-write-words
 slice-write-words c = search needs
@@ -34,7 +35,7 @@ same-length : tie.Need-same-length
 same-length c = search needs
 
 returns : tie.Need-returns
-returns c = clear-words (now (c .args .words)) (c .pre)
+returns c = close-zeroed (now (c .args .words)) (c .pre) ∙ close-nine (now (c .args .words)) (c .pre)
 
 pub clear-spec : {M : Type 1} → statement M
 clear-spec =

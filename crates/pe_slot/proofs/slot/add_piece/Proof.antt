@@ -4,19 +4,22 @@ use denote.Ref.{now}
 use Rattle.pe_slot.specs.Memory.{slotOf}
 use Rattle.pe_slot.specs.Steps.{addPiece}
 use Rattle.pe_slot.proofs.FeedLaws.{fit-splice}
+use Rattle.pe_slot.proofs.SlotWords.{close-nine}
 use borrow.Author.Needs.{needs}
 use Rattle.pe_slot.proofs.slot.add_piece.Statement.{statement}
 use Rattle.pe_slot.proofs.slot.add_piece.Tie as tie
 
-clear-requires : tie.Need-clear-requires
-clear-requires c κs = search needs
+close-requires : tie.Need-close-requires
+close-requires c κs = search needs
 
 same-length : tie.Need-same-length
 same-length c = search needs
 
 returns : tie.Need-returns
 unfolding addPiece
-returns c = rw (eq-eqb _ _ (c .before .before .before .before .if1 .taken), c .before .before .clear .ensures)
+returns c =
+    let start = c .before .before .before .before .before .before .before .before .before in
+    rw (eq-eqb _ _ (c .before .before .before .before .if1 .taken), c .before .before .close .ensures ∙ close-nine _ (start .pre .0))
 
 returns-2 : tie.Need-returns-2
 unfolding addPiece
@@ -35,8 +38,8 @@ slice-read-at c = search needs
 add-end : tie.Need-add-end
 add-end c = search needs
 
-clear-requires-2 : tie.Need-clear-requires-2
-clear-requires-2 c κs = search needs
+close-requires-2 : tie.Need-close-requires-2
+close-requires-2 c κs = search needs
 
 same-length-2 : tie.Need-same-length-2
 same-length-2 c = search needs
@@ -45,7 +48,7 @@ returns-4 : tie.Need-returns-4
 unfolding addPiece
 returns-4 c =
     let u5 = c .before .before .before .before .before in
-    rw (ne-eqb _ _ (u5 .before .before .before .before .if1 .left), u5 .before .before .before .if2 .left, lt-ltb _ _ (c .before .before .before .before .before .before .if3 .left), lt-leb _ _ (c .before .before .before .before .if4 .taken), c .before .before .clear2 .ensures)
+    rw (ne-eqb _ _ (u5 .before .before .before .before .if1 .left), u5 .before .before .before .if2 .left, lt-ltb _ _ (c .before .before .before .before .before .before .if3 .left), lt-leb _ _ (c .before .before .before .before .if4 .taken), c .before .before .close2 .ensures ∙ close-nine _ (u5 .before .before .before .before .before .before .before .before .before .pre .0))
 
 pack-requires : tie.Need-pack-requires
 pack-requires c κs = search needs
@@ -97,7 +100,7 @@ pub add-piece-spec : {M : Type 1} → statement M
 add-piece-spec =
     tie.close
     (tie.spec
-    clear-requires
+    close-requires
     same-length
     returns
     returns-2
@@ -105,7 +108,7 @@ add-piece-spec =
     returns-3
     slice-read-at
     add-end
-    clear-requires-2
+    close-requires-2
     same-length-2
     returns-4
     pack-requires

@@ -5,7 +5,7 @@ use mathlib.Core.Bool.{true}
 use borrow.Author.Tests.{not-true, not-false}
 use denote.Ref.{now}
 use Rattle.pe_frame.specs.Chunk.{Chunk}
-use Rattle.pe_slot.specs.declared.slot.TxSlot.{TxSlot}
+use Rattle.pe_slot.specs.declared.layout.TxSlot.{TxSlot}
 use Rattle.pe_slot.specs.Memory.{slotOf, isSound}
 use Rattle.pe_slot.specs.Feed.{isShaped}
 use Rattle.pe_slot.proofs.FeedAsked.{Shaped, shaped-told, Bounded, bounded-told, unbounded, unlaid, sound, ends, fed-unshaped, fed-damaged, fed-long, fed-sound}
@@ -16,9 +16,18 @@ use Rattle.pe_slot.proofs.slot.feed_slot.Tie as tie
 abbrev start : tie.Else1 → tie.Start
 start c = c .before .before .before .before .before .before .before .before .before .before
 
--- the place after the first question's yes
+-- the places after each question's yes, and after the touch
 abbrev first : tie.Else2 → tie.Else1
 first c = c .before .before .before .before .before .before
+
+abbrev second : tie.Else3 → tie.Else2
+second c = c .before .before .before .before
+
+abbrev third : tie.Else4 → tie.Else3
+third c = c .before
+
+abbrev fourth : tie.After-touch → tie.Else4
+fourth c = c .before .before
 
 abbrev chunk : tie.Start → Chunk
 chunk s = record { request-id = s .args .request-id; header = now (s .args .chunk-header); num-chunks = s .args .num-chunks; chunk-num = s .args .chunk-num; property = now (s .args .property) }
@@ -39,11 +48,11 @@ bounded : (c : tie.Else2)
 bounded c = bounded-told _ _ _ (slot (start (first c)) .active) _ _ _ (sym (c .before .is-bounded .ensures) ∙ not-false _ (c .if2 .left))
 
 is-sound : (c : tie.Else3)
-    → (let s = start (first (c .before .before .before .before)) in
+    → (let s = start (first (second c)) in
     isSound (length (now (s .args .header))) (length (now (s .args .arena))) (length (now (s .args .index))) (slot s) (now (s .args .index)) ≡ true)
 is-sound c =
-    sound _ _ _ (slot (start (first (c .before .before .before .before)))) _ (c .before .before .before .before .before .is-bounded .ensures) (c .before .before .scan .ensures) (c .before .ends-at .ensures)
-    (c .before .before .before .before .if2 .left) (c .if3 .left)
+    let b = second c in
+    sound _ _ _ (slot (start (first b))) _ (b .before .is-bounded .ensures) (c .before .before .scan .ensures) (c .before .ends-at .ensures) (b .if2 .left) (c .if3 .left)
 
 is-shaped-requires : tie.Need-is-shaped-requires
 is-shaped-requires c κs = search needs
@@ -54,7 +63,7 @@ returns c =
     let u5 = c .before .before .before .before .before in
     let u10 = u5 .before .before .before .before .before in
     let a = u10 .args in
-    fed-unshaped (now (a .words)) (now (a .index)) (now (a .header)) (now (a .arena)) (chunk (u10)) (a .now-ms) (a .tick) (now (a .out-header)) (now (a .out-body))
+    fed-unshaped (now (a .words)) (now (a .index)) (now (a .header)) (now (a .arena)) (chunk (u10)) (a .moment .«now_ms») (a .moment .tick) (now (a .out-header)) (now (a .out-body))
     (unfold isShaped in (sym (c .before .is-shaped .ensures) ∙ not-true _ (c .if1 .taken)))
 
 slice-read-len : tie.Need-slice-read-len
@@ -74,17 +83,17 @@ is-bounded-requires c κs = search needs
 
 returns-2 : tie.Need-returns-2
 returns-2 c =
-    let u5 = c .before .before .before .before .before in
-    let u10 = u5 .before .before .before .before .before in
-    let u15 = u10 .before .before .before .before .before in
-    let a = u15 .before .args in
-    fed-damaged (now (a .words)) (now (a .index)) (now (a .header)) (now (a .arena)) (chunk (u15 .before)) (a .now-ms) (a .tick) (now (a .out-header)) (now (a .out-body))
-    (is-shaped (c .before .before .before .before .before .before)) (unbounded _ _ _ (slot (u15 .before)) (now (a .index)) (c .before .is-bounded .ensures) (c .if2 .taken))
+    let e = c .before .before .before .before .before .before in
+    let s = start e in
+    let a = s .args in
+    fed-damaged (now (a .words)) (now (a .index)) (now (a .header)) (now (a .arena)) (chunk s) (a .moment .«now_ms») (a .moment .tick) (now (a .out-header)) (now (a .out-body))
+    (is-shaped e) (unbounded _ _ _ (slot s) (now (a .index)) (c .before .is-bounded .ensures) (c .if2 .taken))
 
 scan-requires : tie.Need-scan-requires
 scan-requires c κs =
-    let u5 = c .before .before .before .before .before in
-    let b = bounded (c .before) .held in let r = shape (u5 .before .before) .records in (b, omega arith)
+    let b = bounded (c .before) .held in
+    let r = shape (first (c .before)) .records in
+    (b, omega arith)
 
 ends-at-requires : tie.Need-ends-at-requires
 ends-at-requires c κs = search needs
@@ -94,13 +103,11 @@ same-length c = search needs
 
 returns-3 : tie.Need-returns-3
 returns-3 c =
-    let u5 = c .before .before .before .before .before in
-    let u10 = u5 .before .before .before .before .before in
-    let u15 = u10 .before .before .before .before .before in
-    let u20 = u15 .before .before .before .before .before in
-    let a = u20 .args in
-    fed-damaged (now (a .words)) (now (a .index)) (now (a .header)) (now (a .arena)) (chunk (u20)) (a .now-ms) (a .tick) (now (a .out-header)) (now (a .out-body))
-    (is-shaped (u10)) (unlaid _ _ _ (slot (u20)) _ (c .before .before .before .before .before .is-bounded .ensures) (c .before .before .scan .ensures) (c .before .ends-at .ensures) (c .if3 .taken))
+    let b = c .before .before .before .before in
+    let s = start (first b) in
+    let a = s .args in
+    fed-damaged (now (a .words)) (now (a .index)) (now (a .header)) (now (a .arena)) (chunk s) (a .moment .«now_ms») (a .moment .tick) (now (a .out-header)) (now (a .out-body))
+    (is-shaped (first b)) (unlaid _ _ _ (slot s) _ (b .before .is-bounded .ensures) (c .before .before .scan .ensures) (c .before .ends-at .ensures) (c .if3 .taken))
 
 cast-if4 : tie.Need-cast-if4
 cast-if4 c = search needs
@@ -110,43 +117,35 @@ same-length-2 c = search needs
 
 returns-4 : tie.Need-returns-4
 returns-4 c =
-    let u5 = c .before .before .before .before .before in
-    let u10 = u5 .before .before .before .before .before in
-    let u15 = u10 .before .before .before .before .before in
-    let u20 = u15 .before .before .before .before .before in
-    let a = u20 .before .args in
-    fed-long (now (a .words)) (now (a .index)) (now (a .header)) (now (a .arena)) (chunk (u20 .before)) (a .now-ms) (a .tick) (now (a .out-header)) (now (a .out-body))
-    (is-shaped (u10 .before)) (is-sound (c .before)) (c .if4 .taken)
+    let e = first (second (c .before)) in
+    let s = start e in
+    let a = s .args in
+    fed-long (now (a .words)) (now (a .index)) (now (a .header)) (now (a .arena)) (chunk s) (a .moment .«now_ms») (a .moment .tick) (now (a .out-header)) (now (a .out-body))
+    (is-shaped e) (is-sound (c .before)) (c .if4 .taken)
 
 touch-requires : tie.Need-touch-requires
-touch-requires c κs =
-    let u5 = c .before .before .before .before .before in
-    let u10 = u5 .before .before .before .before .before in
-    shape (u10 .before .before) .nine
+touch-requires c κs = shape (first (second (third (c .before)))) .nine
 
 feed-sound-requires : tie.Need-feed-sound-requires
 feed-sound-requires c κs =
-    let u5 = c .before .before .before .before .before in
-    let u10 = u5 .before .before .before .before .before in
-    let u15 = u10 .before .before .before .before .before in
-    let u20 = u15 .before .before .before .before .before in
-    let u25 = u20 .before .before .before .before .before in
-    let u30 = u25 .before .before .before .before .before in
-    let s = shape (u20 .before) in
-    let b = bounded (u15) in
-    let t = u5 .before .before .before .touch .ensures in (
+    let touched = c .before .before .before .before .before .before .before .before in
+    let l = fourth touched in
+    let e = third l in
+    let s = shape (first (second e)) in
+    let b = bounded (second e) in
+    let t = touched .touch .ensures in (
       rw t (record {
         nine = refl;
         head = b .head;
         held = b .held;
         records = s .records;
-        ends = ends _ _ _ (slot (u30 .before)) _ (u15 .before .is-bounded .ensures) (u10 .before .before .before .scan .ensures) (u10 .before .before .ends-at .ensures) (u10 .before .if3 .left);
+        ends = ends _ _ _ (slot (start (first (second e)))) _ (second e .before .is-bounded .ensures) (e .before .before .scan .ensures) (e .before .ends-at .ensures) (e .if3 .left);
         body = b .body;
         bytes = s .bytes;
         header-room = s .header-room;
         body-room = s .body-room;
       }),
-      (u10 .if4 .left, rw t (u10 .before .before .before .scan .ensures .held)),
+      (l .if4 .left, rw t (e .before .before .scan .ensures .held)),
     )
 
 same-length-3 : tie.Need-same-length-3
@@ -169,17 +168,13 @@ same-length-8 c = search needs
 
 returns-5 : tie.Need-returns-5
 returns-5 c =
-    let u5 = c .before .before .before .before .before in
-    let u10 = u5 .before .before .before .before .before in
-    let u15 = u10 .before .before .before .before .before in
-    let u20 = u15 .before .before .before .before .before in
-    let u25 = u20 .before .before .before .before .before in
-    let u30 = u25 .before .before .before .before .before in
-    let u35 = u30 .before .before .before .before .before in
-    let u40 = u35 .before .before .before .before .before in
-    let a = u40 .before .before .before .before .args in
-    fed-sound (now (a .words)) (now (a .index)) (now (a .header)) (now (a .arena)) (chunk (u40 .before .before .before .before)) (a .now-ms) (a .tick) (now (a .out-header)) (now (a .out-body))
-    (is-shaped (u30 .before .before .before .before)) (is-sound (u20 .before .before .before .before)) (u20 .before .before .before .if4 .left) (u20 .before .touch .ensures) (u10 .before .before .feed-sound .ensures)
+    let touched = c .before .before .before .before .before .before .before .before .before .before .before .before .before .before .before .before .before .before .before .before .before in
+    let l = fourth touched in
+    let e = first (second (third l)) in
+    let s = start e in
+    let a = s .args in
+    fed-sound (now (a .words)) (now (a .index)) (now (a .header)) (now (a .arena)) (chunk s) (a .moment .«now_ms») (a .moment .tick) (now (a .out-header)) (now (a .out-body))
+    (is-shaped e) (is-sound (third l)) (l .if4 .left) (touched .touch .ensures) (c .before .before .before .before .before .before .before .before .before .before .before .before .feed-sound .ensures)
 
 pub feed-slot-spec : {M : Type 1} → statement M
 feed-slot-spec =

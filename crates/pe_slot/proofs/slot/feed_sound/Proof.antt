@@ -1,8 +1,10 @@
+use mathlib.Core.Path.{ap}
 use native.Mathlib.Omega.{arith}
 use borrow.Author.Tests.{not-true, not-false}
 use denote.Ref.{now}
 use Rattle.pe_frame.specs.Chunk.{Chunk}
 use Rattle.pe_slot.specs.Memory.{slotOf}
+use Rattle.pe_slot.specs.Steps.{askedTold}
 use Rattle.pe_slot.proofs.StepEnds.{Reaching, header-no, ready-header, count-no, ready-count, piece-no, ready-piece, all-passed}
 use borrow.Author.Needs.{needs}
 use Rattle.pe_slot.proofs.slot.feed_sound.Statement.{statement}
@@ -15,11 +17,27 @@ chunk s =
 reaching : (s : tie.Start) → Reaching (now (s .args .words)) (now (s .args .index)) (now (s .args .header)) (now (s .args .arena)) (chunk s) (s .args .held) (now (s .args .out-header)) (now (s .args .out-body))
 reaching s = record { ready = s .pre .0; named = (let f = s .fits in let g = s .good in omega arith); short = s .pre .1 .0; holding = s .pre .1 .1 }
 
+-- the places of the steps, from the last to the first
+abbrev start : tie.After-take-header → tie.Start
+start c = c .before .before .before .before .before .before .before .before .before .before .before
+
+abbrev taken : tie.After-enum-told → tie.After-take-header
+taken c = c .before .before .before .before .before .before
+
+abbrev asked : tie.After-take-count → tie.After-enum-told
+asked c = c .before .before
+
+abbrev counted : tie.Else1 → tie.After-take-count
+counted c = c .before .before .before
+
+abbrev agreed : tie.After-add-piece → tie.Else1
+agreed c = c .before .before .before .before
+
+abbrev added : tie.After-enum-told2 → tie.After-add-piece
+added c = c .before .before .before .before .before .before .before .before
+
 take-header-requires : tie.Need-take-header-requires
-take-header-requires c κs =
-    let u5 = c .before .before .before .before .before in
-    let u10 = u5 .before .before .before .before .before in
-    let r = u10 .pre .0 in (r .nine, r .head)
+take-header-requires c κs = let r = c .before .before .before .before .before .before .before .before .before .before .pre .0 in (r .nine, r .head)
 
 enum-known-e : tie.Need-enum-known-e
 enum-known-e c = search needs
@@ -32,20 +50,14 @@ same-length-2 c = search needs
 
 returns : tie.Need-returns
 returns c =
-    let u5 = c .before .before .before .before .before in
-    let u10 = u5 .before .before .before .before .before in
-    let u15 = u10 .before .before .before .before .before in
-    header-no (reaching (u15 .before .before .before)) (u5 .before .before .take-header .ensures) (c .before .e .given .1)
+    let t = c .before .before .before .before .before .before .before in
+    header-no (reaching (start t)) (t .take-header .ensures) (ap askedTold (c .before .e .given .1))
 
 enum-told : tie.Need-enum-told
 enum-told c = search needs
 
 take-count-requires : tie.Need-take-count-requires
-take-count-requires c κs =
-    let u5 = c .before .before .before .before .before in
-    let u10 = u5 .before .before .before .before .before in
-    let u15 = u10 .before .before .before .before .before in
-    ready-header (reaching (u15 .before .before .before)) (u5 .before .before .take-header .ensures) .nine
+take-count-requires c κs = let t = taken (c .before) in ready-header (reaching (start t)) (t .take-header .ensures) .nine
 
 same-length-3 : tie.Need-same-length-3
 same-length-3 c = search needs
@@ -55,20 +67,18 @@ same-length-4 c = search needs
 
 returns-2 : tie.Need-returns-2
 returns-2 c =
-    let u5 = c .before .before .before .before .before in
-    let u10 = u5 .before .before .before .before .before in
-    let u15 = u10 .before .before .before .before .before in
-    let u20 = u15 .before .before .before .before .before in
-    count-no (reaching (u20 .before .before)) (u10 .before .take-header .ensures) (c .before .before .before .before .before .enum-told .given .1) (c .before .before .before .take-count .ensures) (not-true _ (c .if1 .taken))
+    let n = c .before .before .before in
+    let y = asked n in
+    let t = taken y in
+    count-no (reaching (start t)) (t .take-header .ensures) (ap askedTold (y .enum-told .given .1)) (n .take-count .ensures) (not-true _ (c .if1 .taken))
 
 add-piece-requires : tie.Need-add-piece-requires
 add-piece-requires c κs =
-    let u5 = c .before .before .before .before .before in
-    let u10 = u5 .before .before .before .before .before in
-    let u15 = u10 .before .before .before .before .before in
-    let u20 = u15 .before .before .before .before .before in
-    let u25 = u20 .before .before .before .before .before in
-    let r = ready-count (reaching (u25)) (u10 .before .before .before .before .take-header .ensures) (u5 .before .before .before .enum-told .given .1) (c .before .before .before .before .before .before .take-count .ensures) in (r .nine, r .bytes, r .body, u25 .pre .1 .0)
+    let n = counted (c .before .before .before) in
+    let y = asked n in
+    let t = taken y in
+    let r = ready-count (reaching (start t)) (t .take-header .ensures) (ap askedTold (y .enum-told .given .1)) (n .take-count .ensures) in
+    (r .nine, r .bytes, r .body, start t .pre .1 .0)
 
 enum-known-e-2 : tie.Need-enum-known-e-2
 enum-known-e-2 c = search needs
@@ -87,29 +97,27 @@ same-length-8 c = search needs
 
 returns-3 : tie.Need-returns-3
 returns-3 c =
-    let u5 = c .before .before .before .before .before in
-    let u10 = u5 .before .before .before .before .before in
-    let u15 = u10 .before .before .before .before .before in
-    let u20 = u15 .before .before .before .before .before in
-    let u25 = u20 .before .before .before .before .before in
-    let u30 = u25 .before .before .before .before .before in
-    let u35 = u30 .before .before .before .before .before in
-    piece-no (reaching (u35)) (u20 .before .before .before .before .take-header .ensures) (u15 .before .before .before .enum-told .given .1) (u15 .before .take-count .ensures) (not-false _ (u10 .before .before .before .if1 .left)) (u5 .before .before .before .before .add-piece .ensures) (c .before .e2 .given .1)
+    let p = c .before .before .before .before .before .before .before .before .before in
+    let i = agreed p in
+    let n = counted i in
+    let y = asked n in
+    let t = taken y in
+    piece-no (reaching (start t)) (t .take-header .ensures) (ap askedTold (y .enum-told .given .1)) (n .take-count .ensures) (not-false _ (i .if1 .left)) (p .add-piece .ensures)
+    (ap askedTold (c .before .e2 .given .1))
 
 enum-told-2 : tie.Need-enum-told-2
 enum-told-2 c = search needs
 
 finish-requires : tie.Need-finish-requires
 finish-requires c κs =
-    let u5 = c .before .before .before .before .before in
-    let u10 = u5 .before .before .before .before .before in
-    let u15 = u10 .before .before .before .before .before in
-    let u20 = u15 .before .before .before .before .before in
-    let u25 = u20 .before .before .before .before .before in
-    let u30 = u25 .before .before .before .before .before in
-    let u35 = u30 .before .before .before .before .before in
-    let u40 = u35 .before .before .before .before .before in
-    ready-piece (reaching (u40)) (u25 .before .before .before .before .take-header .ensures) (u20 .before .before .before .enum-told .given .1) (u20 .before .take-count .ensures) (not-false _ (u15 .before .before .before .if1 .left)) (u10 .before .before .before .before .add-piece .ensures) (c .before .before .before .before .before .before .enum-told2 .given .1)
+    let z = c .before .before .before .before .before .before in
+    let p = added z in
+    let i = agreed p in
+    let n = counted i in
+    let y = asked n in
+    let t = taken y in
+    ready-piece (reaching (start t)) (t .take-header .ensures) (ap askedTold (y .enum-told .given .1)) (n .take-count .ensures) (not-false _ (i .if1 .left)) (p .add-piece .ensures)
+    (ap askedTold (z .enum-told2 .given .1))
 
 same-length-9 : tie.Need-same-length-9
 same-length-9 c = search needs
@@ -131,17 +139,14 @@ same-length-14 c = search needs
 
 returns-4 : tie.Need-returns-4
 returns-4 c =
-    let u5 = c .before .before .before .before .before in
-    let u10 = u5 .before .before .before .before .before in
-    let u15 = u10 .before .before .before .before .before in
-    let u20 = u15 .before .before .before .before .before in
-    let u25 = u20 .before .before .before .before .before in
-    let u30 = u25 .before .before .before .before .before in
-    let u35 = u30 .before .before .before .before .before in
-    let u40 = u35 .before .before .before .before .before in
-    let u45 = u40 .before .before .before .before .before in
-    all-passed (reaching (u45 .before .before)) (u35 .before .take-header .ensures) (u30 .enum-told .given .1) (u25 .before .before .before .take-count .ensures) (not-false _ (u25 .if1 .left)) (u20 .before .add-piece .ensures) (u10 .before .before .before .enum-told2 .given .1)
-    (c .before .before .before .before .before .before .finish .ensures)
+    let z = c .before .before .before .before .before .before .before .before .before .before .before .before .before in
+    let p = added z in
+    let i = agreed p in
+    let n = counted i in
+    let y = asked n in
+    let t = taken y in
+    all-passed (reaching (start t)) (t .take-header .ensures) (ap askedTold (y .enum-told .given .1)) (n .take-count .ensures) (not-false _ (i .if1 .left)) (p .add-piece .ensures)
+    (ap askedTold (z .enum-told2 .given .1)) (c .before .before .before .before .before .before .finish .ensures)
 
 pub feed-sound-spec : {M : Type 1} → statement M
 feed-sound-spec =

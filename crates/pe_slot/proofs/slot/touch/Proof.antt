@@ -25,13 +25,13 @@ same-length : tie.Need-same-length
 same-length c = search needs
 
 returns : tie.Need-returns
-returns c = let a = c .before .before .args in touch-free (a .request-id) (a .now-ms) (a .tick) (now (a .words)) (c .before .before .pre) (c .if1 .taken)
+returns c = let a = c .before .before .args in touch-free (a .request-id) (a .moment .«now_ms») (a .moment .tick) (now (a .words)) (c .before .before .pre) (c .if1 .taken)
 
 same-length-2 : tie.Need-same-length-2
 same-length-2 c = search needs
 
 returns-2 : tie.Need-returns-2
-returns-2 c = let a = c .before .before .args in touch-open (a .request-id) (a .now-ms) (a .tick) (now (a .words)) (c .before .before .pre) (c .if1 .left)
+returns-2 c = let a = c .before .before .args in touch-open (a .request-id) (a .moment .«now_ms») (a .moment .tick) (now (a .words)) (c .before .before .pre) (c .if1 .left)
 
 pub touch-spec : {M : Type 1} → statement M
 touch-spec =

@@ -1,10 +1,13 @@
 use lib.ListN.{length-set}
 use native.Mathlib.Omega.{arith}
 use denote.Ref.{now}
-use Rattle.pe_slot.proofs.SlotWords.{clear-words}
+use Rattle.pe_slot.proofs.SlotWords.{close-zeroed, close-other}
 use borrow.Author.Needs.{needs}
-use Rattle.pe_slot.proofs.slot.clear.Statement.{statement}
-use Rattle.pe_slot.proofs.slot.clear.Tie as tie
+use Rattle.pe_slot.proofs.slot.close.Statement.{statement}
+use Rattle.pe_slot.proofs.slot.close.Tie as tie
+
+returns : tie.Need-returns
+returns c = close-other _ (c .if1 .taken)
 
 slice-write-words : tie.Need-slice-write-words
 slice-write-words c = search needs
@@ -33,13 +36,14 @@ slice-write-words-8 c = simp length-set (omega arith)
 same-length : tie.Need-same-length
 same-length c = search needs
 
-returns : tie.Need-returns
-returns c = clear-words (now (c .args .words)) (c .pre)
+returns-2 : tie.Need-returns-2
+returns-2 c = close-zeroed _ (c .if1 .left)
 
-pub clear-spec : {M : Type 1} → statement M
-clear-spec =
+pub close-spec : {M : Type 1} → statement M
+close-spec =
     tie.close
     (tie.spec
+    returns
     slice-write-words
     slice-write-words-2
     slice-write-words-3
@@ -49,4 +53,4 @@ clear-spec =
     slice-write-words-7
     slice-write-words-8
     same-length
-    returns)
+    returns-2)
