@@ -23,13 +23,13 @@ impl Table {
             out_body: vec![1; TX_BYTES],
         };
         let Table { numbers, index, headers, arenas, .. } = &mut table;
-        let made = port::midici_pe_new(PEERS, HEADER_BYTES, TX_BYTES, FRAGMENT_RECORDS, numbers, index, headers, arenas);
+        let made = exports::midici_pe_new(PEERS, HEADER_BYTES, TX_BYTES, FRAGMENT_RECORDS, numbers, index, headers, arenas);
         assert_eq!(made.refusal, 0, "the port's new");
         table
     }
 
-    pub fn feed(&mut self, peer: u32, raw_chunk: &[u8]) -> port::FedAnswer {
-        port::midici_pe_feed(
+    pub fn feed(&mut self, peer: u32, raw_chunk: &[u8]) -> exports::FedAnswer {
+        exports::midici_pe_feed(
             PEERS,
             HEADER_BYTES,
             TX_BYTES,
@@ -47,20 +47,20 @@ impl Table {
     }
 
     pub fn drop_peer(&mut self, peer: u32) {
-        port::midici_pe_drop_peer(PEERS, HEADER_BYTES, TX_BYTES, FRAGMENT_RECORDS, &mut self.numbers, peer);
+        exports::midici_pe_drop_peer(PEERS, HEADER_BYTES, TX_BYTES, FRAGMENT_RECORDS, &mut self.numbers, peer);
     }
 }
 
 pub fn chunk_count(list: &List) -> usize {
-    port::midici_pe_chunk_count(REQUEST_ID, &list.header, &list.body, list.max_sysex).count as usize
+    exports::midici_pe_chunk_count(REQUEST_ID, &list.header, &list.body, list.max_sysex).count as usize
 }
 
 /// Writes a chunk of the list into out: its length.
 pub fn split_chunk(list: &List, chunk_num: u16, out: &mut [u8]) -> usize {
-    port::midici_pe_split_chunk(REQUEST_ID, &list.header, &list.body, list.max_sysex, chunk_num, out).count as usize
+    exports::midici_pe_split_chunk(REQUEST_ID, &list.header, &list.body, list.max_sysex, chunk_num, out).count as usize
 }
 
 /// Reads an Mcoded7 text into out: how many bytes it has.
 pub fn mcoded7_decode(text: &[u8], out: &mut [u8]) -> usize {
-    port::codec_mcoded7_decode(text, out).count as usize
+    exports::codec_mcoded7_decode(text, out).count as usize
 }

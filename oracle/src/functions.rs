@@ -6,4 +6,5 @@ pub mod cutter;
 pub mod mcoded7;
 pub mod messages;
 pub mod muids;
+pub mod records;
 pub mod wire;

@@ -24,6 +24,10 @@ pub fn words(input: &[u8]) -> Vec<u32> {
     (0..input.len() / 4).map(|i| u32_at(input, 4 * i)).collect()
 }
 
+pub fn long_words(input: &[u8]) -> Vec<u64> {
+    (0..input.len() / 8).map(|i| u64_at(input, 8 * i)).collect()
+}
+
 /// The header whose length (2) stands at `at`, and what follows it.
 fn header_and_rest(input: &[u8], at: usize) -> (&[u8], &[u8]) {
     let rest = from(input, at + 2);

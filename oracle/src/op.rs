@@ -1,6 +1,6 @@
 //! The functions that are compared, a row for each.
 use crate::export::{export, Export};
-use crate::functions::{chunks, controller, cutter, mcoded7, messages, muids, wire};
+use crate::functions::{chunks, controller, cutter, mcoded7, messages, muids, records, wire};
 use crate::inputs::{self, Each};
 use crate::outcome::{Answer, Outcome};
 use crate::rng::Rng;
@@ -20,6 +20,8 @@ pub struct Row {
     pub writes: bool,
     /// Is its first value a yes or a no?
     pub tells_whether: bool,
+    /// Is it in the list that the program `replay` plays?
+    pub replayed: bool,
 }
 
 const fn row(
@@ -30,7 +32,7 @@ const fn row(
     original: fn(&[u8], Vec<u8>) -> Outcome,
 ) -> Row {
     let export = export(name, refusals);
-    Row { export, inputs, random, original, all_compared: false, writes: false, tells_whether: false }
+    Row { export, inputs, random, original, all_compared: false, writes: false, tells_whether: false, replayed: true }
 }
 
 impl Row {
@@ -44,6 +46,10 @@ impl Row {
 
     const fn tells_whether(self) -> Row {
         Row { tells_whether: true, ..self }
+    }
+
+    const fn not_replayed(self) -> Row {
+        Row { replayed: false, ..self }
     }
 }
 
@@ -143,6 +149,9 @@ functions! {
     /// Room (2), kind, source (4), destination (4), CHUNK.
     WholeEncode: row("midici_pe_encode_message", &[28, 24, 1, 8, 3], chunks::whole_to_encode, chunks::random_whole_to_encode,
         chunks::whole_encode).writes();
+    /// Chunk number (2), records, eight bytes each.
+    Position: row("codec_position", &[], records::to_search, records::random_to_search,
+        records::position).tells_whether().not_replayed();
 }
 
 impl Op {

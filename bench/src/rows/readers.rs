@@ -2,7 +2,7 @@
 use crate::inputs::{bytes, keep, rng, seven_bit, List, REQUEST_ID};
 use crate::port;
 use crate::row::Row;
-use ::port::raw;
+use exports::raw;
 use midici_core::header::CiHeader;
 use midici_core::pe_caps::PeCapabilities;
 use midici_core::spec::{SUB_ID2_PE_CAPS_INQUIRY, SUB_ID2_PE_GET_INQUIRY};
@@ -63,7 +63,7 @@ fn reader<const FIELDS: usize>(
 }
 
 fn chunk(name: &str, inputs: Inputs) -> Row {
-    let decode: FromPort<::port::ChunkAnswer> = black_box(raw::codec_decode_fields);
+    let decode: FromPort<exports::ChunkAnswer> = black_box(raw::codec_decode_fields);
     let rust: FromRust<PeChunkRef<'static>, _> = black_box(PeChunkRef::decode);
     let by_port = move |input: &'static [u8]| {
         let chunk = unsafe { decode(input.as_ptr(), input.len()) };
@@ -78,21 +78,21 @@ fn chunk(name: &str, inputs: Inputs) -> Row {
 }
 
 fn field(inputs: Inputs) -> Row {
-    let read: FromPort<::port::Answer> = black_box(raw::codec_read_u14_le7);
+    let read: FromPort<exports::Answer> = black_box(raw::codec_read_u14_le7);
     let rust: FromRust<u16, _> = black_box(wire::read_u14_le7);
     let by_port = move |input: &'static [u8]| [unsafe { read(input.as_ptr(), input.len()) }.count];
     reader("field of 14 bits", inputs, by_port, move |input| [rust(input).expect("a good field") as u64])
 }
 
 fn header(inputs: Inputs) -> Row {
-    let decode: FromPort<::port::HeaderAnswer> = black_box(raw::codec_header_decode);
+    let decode: FromPort<exports::HeaderAnswer> = black_box(raw::codec_header_decode);
     let rust: FromRust<(CiHeader, &'static [u8]), _> = black_box(CiHeader::decode);
     let by_port = move |input: &'static [u8]| port_header(&unsafe { decode(input.as_ptr(), input.len()) }.header);
     reader("CI header", inputs, by_port, move |input| rust_header(&rust(input).expect("a good header").0))
 }
 
 fn capabilities(inputs: Inputs) -> Row {
-    let decode: FromPort<::port::CapsAnswer> = black_box(raw::codec_caps_decode);
+    let decode: FromPort<exports::CapsAnswer> = black_box(raw::codec_caps_decode);
     let rust: FromRust<PeCapabilities, _> = black_box(PeCapabilities::decode);
     let by_port = move |input: &'static [u8]| {
         let caps = unsafe { decode(input.as_ptr(), input.len()) }.caps;
@@ -106,7 +106,7 @@ fn capabilities(inputs: Inputs) -> Row {
     })
 }
 
-fn port_header(header: &::port::HeaderFields) -> [u64; 5] {
+fn port_header(header: &exports::HeaderFields) -> [u64; 5] {
     [header.device_id as u64, header.sub_id2 as u64, header.version as u64, header.source as u64, header.dest as u64]
 }
 

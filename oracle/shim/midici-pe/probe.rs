@@ -85,6 +85,15 @@ pub mod probe {
         }
     }
 
+    /// The first place at which a record has the number. Which one has it is asked by the expression with which `feed_chunk`
+    /// looks for a chunk that is held already, cut out by layout.sh.
+    pub fn position(records: impl Iterator<Item = (u16, u16, u32)>, chunk_num: u16) -> Option<usize> {
+        let record = |(chunk_num, len, offset)| FragmentMeta { chunk_num, offset, len };
+        let index: Vec<FragmentMeta> = records.map(record).collect();
+        let chunk = record((chunk_num, 0, 0));
+        index.iter().position(include!("../cut/is_held.rs"))
+    }
+
     /// All that a vector has room for. `Rooms::new` wrote all of it once, and no call shrinks it.
     fn room<T>(v: &Vec<T>) -> &[T] {
         unsafe { core::slice::from_raw_parts(v.as_ptr(), v.capacity()) }

@@ -21,19 +21,14 @@ use summary::Summary;
 /// So many runs give every refusal that an export can give; the inputs at the boundaries give all of a function's.
 const RUNS_FOR_ALL: u64 = 2_000;
 
-/// What the lent output holds before a call.
-fn fill(at: usize) -> u8 {
-    (at * 73 + 0xA5) as u8
-}
-
-fn exports() -> Vec<Export> {
+fn compared() -> Vec<Export> {
     Op::ALL.iter().map(|(_, export)| *export).chain(What::exports()).collect()
 }
 
 /// Is every export compared that the source declares, and is every one declared that is compared?
 fn check_exports() -> Result<(), String> {
-    let compared: BTreeSet<&str> = exports().iter().map(|export| export.name).collect();
-    let declared = BTreeSet::from(::port::EXPORTS);
+    let compared: BTreeSet<&str> = compared().iter().map(|export| export.name).collect();
+    let declared = BTreeSet::from(exports::NAMES);
     let (missing, unknown) = (&declared - &compared, &compared - &declared);
     if missing.is_empty() && unknown.is_empty() {
         return Ok(());
@@ -43,8 +38,8 @@ fn check_exports() -> Result<(), String> {
 
 /// Puts one case to both sides.
 fn compare(case: &Case, export: Export, summary: &mut Summary) -> Result<(), String> {
-    let expected = original::answer(case, case.lent(fill));
-    let found = port::answer(case, case.lent(fill));
+    let expected = original::answer(case, case.lent(port::fill));
+    let found = port::answer(case, case.lent(port::fill));
     if found.as_ref() != Ok(&expected) {
         let found = found.map_or_else(|wrong| wrong, |found| found.to_string());
         return Err(format!("{case}\n  the original: {expected}\n  the port:     {found}"));
@@ -88,8 +83,8 @@ fn compare_runs(seed: u64, runs: u64, summary: &mut Summary) -> Result<(), Strin
 
 /// Did the exports give every refusal that they can give, and no other? Of fewer runs than reach them all it is only said.
 fn check_refusals(runs: u64, summary: &Summary) -> Result<(), String> {
-    summary.check(&exports()).map_err(|unknown| format!("REFUSALS THAT ARE NOT LISTED: {unknown}"))?;
-    match summary.missing(&exports()) {
+    summary.check(&compared()).map_err(|unknown| format!("REFUSALS THAT ARE NOT LISTED: {unknown}"))?;
+    match summary.missing(&compared()) {
         None => println!("Each export gave every refusal that it can give; those of hub together all but {NONE_OF_HUB:?}."),
         Some(missing) if runs >= RUNS_FOR_ALL => return Err(format!("NOT ALL REFUSALS: {missing}")),
         Some(missing) => println!("Too few runs to reach every refusal: {missing}. RUNS={RUNS_FOR_ALL} reaches all."),
@@ -106,7 +101,7 @@ fn compare_both(seed: u64, cases: u64, runs: u64) -> Result<(), String> {
     let differs = |difference| format!("DIFFERENCE: {difference}");
     compare_functions(seed, cases, &mut summary).map_err(differs)?;
     compare_runs(seed, runs, &mut summary).map_err(differs)?;
-    println!("{}, no difference", summary.totals(&exports()));
+    println!("{}, no difference", summary.totals(&compared()));
     check_refusals(runs, &summary)
 }
 
@@ -114,7 +109,7 @@ fn run(args: &[&str]) -> Result<(), String> {
     check_exports()?;
     match args {
         ["exports"] => {
-            exports().iter().for_each(|export| println!("{}", export.name));
+            compared().iter().for_each(|export| println!("{}", export.name));
             Ok(())
         }
         [seed, cases, runs] => compare_both(number(seed, "SEED")?, number(cases, "CASES")?, number(runs, "RUNS")?),

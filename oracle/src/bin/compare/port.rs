@@ -1,10 +1,15 @@
 //! The port's answers, through the exports of crates/hub and crates/codec_exports.
+use exports::Refusing;
 use midici_core::spec::CI_HEADER_LEN;
 use oracle::case::Case;
-use oracle::input::{from, u16_at, u32_at, u64_at, u8_at, words, Chunk, Fields, List, Whole};
+use oracle::input::{from, long_words, u16_at, u32_at, u64_at, u8_at, words, Chunk, Fields, List, Whole};
 use oracle::op::Op;
 use oracle::outcome::{Outcome, Refusal, Reply};
-use port::Refusing;
+
+/// What an output that is lent holds before a call.
+pub fn fill(at: usize) -> u8 {
+    (at * 73 + 0xA5) as u8
+}
 
 /// What the port answers, or how its answer is none that document 01 knows.
 type Found<T> = Result<T, String>;
@@ -13,38 +18,39 @@ type Found<T> = Result<T, String>;
 pub fn answer(case: &Case, mut lent: Vec<u8>) -> Found<Outcome> {
     let (input, out) = (&case.input[..], &mut lent[..]);
     let reply = match case.op {
-        Op::ReadU14Le7 => count(port::codec_read_u14_le7(input)),
-        Op::WriteU14Le7 => count(port::codec_write_u14_le7(u16_at(input, 2), out)),
-        Op::MuidFromU32 => count(port::codec_muid_from_u32(u32_at(input, 0))),
-        Op::MuidOrdinary => count(port::codec_muid_ordinary(u32_at(input, 0))),
-        Op::MuidIsBroadcast => granted([port::codec_muid_is_broadcast(u32_at(input, 0))]),
-        Op::MuidIsReserved => granted([port::codec_muid_is_reserved(u32_at(input, 0))]),
+        Op::ReadU14Le7 => count(exports::codec_read_u14_le7(input)),
+        Op::WriteU14Le7 => count(exports::codec_write_u14_le7(u16_at(input, 2), out)),
+        Op::MuidFromU32 => count(exports::codec_muid_from_u32(u32_at(input, 0))),
+        Op::MuidOrdinary => count(exports::codec_muid_ordinary(u32_at(input, 0))),
+        Op::MuidIsBroadcast => granted([exports::codec_muid_is_broadcast(u32_at(input, 0))]),
+        Op::MuidIsReserved => granted([exports::codec_muid_is_reserved(u32_at(input, 0))]),
         Op::MuidEncode7bitLe => granted(muid_encode_7bit_le(u32_at(input, 0))),
-        Op::MuidDecode7bitLe => count(port::codec_muid_decode_7bit_le(&u32_at(input, 0).to_le_bytes())),
+        Op::MuidDecode7bitLe => count(exports::codec_muid_decode_7bit_le(&u32_at(input, 0).to_le_bytes())),
         Op::MuidGenerate => muid_generate(&words(input)),
         Op::HeaderDecode => header_decode(input),
-        Op::HeaderEncode => count(port::codec_header_encode(header(input), out)),
-        Op::IsPeChunkedSubId => granted([port::codec_is_pe_chunked_sub_id(u8_at(input, 0))]),
+        Op::HeaderEncode => count(exports::codec_header_encode(header(input), out)),
+        Op::IsPeChunkedSubId => granted([exports::codec_is_pe_chunked_sub_id(u8_at(input, 0))]),
         Op::KindOf => kind_of(u8_at(input, 0)),
         Op::CapsDecode => caps_decode(input),
-        Op::CapsEncode => count(port::codec_caps_encode(caps(input), out)),
+        Op::CapsEncode => count(exports::codec_caps_encode(caps(input), out)),
         Op::MessageDecode => return message_decode(input),
-        Op::MessageEncode => count(port::codec_message_encode(header(input), from(input, Fields::END), out)),
-        Op::Mcoded7Decode => count(port::codec_mcoded7_decode(from(input, 2), out)),
-        Op::Mcoded7Encode => count(port::codec_mcoded7_encode(from(input, 2), out)),
-        Op::FirstRequestId => granted([port::codec_first_request_id()]),
+        Op::MessageEncode => count(exports::codec_message_encode(header(input), from(input, Fields::END), out)),
+        Op::Mcoded7Decode => count(exports::codec_mcoded7_decode(from(input, 2), out)),
+        Op::Mcoded7Encode => count(exports::codec_mcoded7_encode(from(input, 2), out)),
+        Op::FirstRequestId => granted([exports::codec_first_request_id()]),
         Op::AllocOutRequestId => alloc_out_request_id(u8_at(input, 0)),
-        Op::NegotiatedRequests => granted([port::codec_negotiated_requests(u8_at(input, 0), u8_at(input, 1))]),
+        Op::NegotiatedRequests => granted([exports::codec_negotiated_requests(u8_at(input, 0), u8_at(input, 1))]),
         Op::ChunkDecode => return chunk_decode(input),
         Op::ChunkEncode => chunk_encode(Chunk::read(from(input, 2)), out),
-        Op::ChunkRewrite => count(port::codec_rewrite(from(input, 2), out)),
-        Op::ClampMaxSysex => granted([port::codec_clamp_max_sysex(u32_at(input, 0))]),
-        Op::PePayloadBudget => granted([port::codec_pe_payload_budget(u32_at(input, 0))]),
-        Op::LaterCapacity => granted([port::codec_later_chunk_property_capacity(u32_at(input, 0))]),
-        Op::FirstCapacity => count(port::codec_first_chunk_property_capacity(u32_at(input, 0), u64_at(input, 4) as usize)),
+        Op::ChunkRewrite => count(exports::codec_rewrite(from(input, 2), out)),
+        Op::ClampMaxSysex => granted([exports::codec_clamp_max_sysex(u32_at(input, 0))]),
+        Op::PePayloadBudget => granted([exports::codec_pe_payload_budget(u32_at(input, 0))]),
+        Op::LaterCapacity => granted([exports::codec_later_chunk_property_capacity(u32_at(input, 0))]),
+        Op::FirstCapacity => count(exports::codec_first_chunk_property_capacity(u32_at(input, 0), u64_at(input, 4) as usize)),
         Op::ChunkCount => chunk_count(List::read(input)),
         Op::SplitChunk => split_chunk(List::read(from(input, 4)), u16_at(input, 2), out),
         Op::WholeEncode => whole_encode(Whole::read(input), out),
+        Op::Position => position(&long_words(from(input, 2)), u16_at(input, 0)),
     };
     Ok(Outcome { reply: reply?, out: lent })
 }
@@ -65,43 +71,43 @@ fn granted<T: Into<u64>>(values: impl IntoIterator<Item = T>) -> Found<Reply> {
     Ok(Ok(values.into_iter().map(Into::into).collect()))
 }
 
-fn count(answer: port::Answer) -> Found<Reply> {
-    reply(answer, |port::Answer { refusal: _, value: _, count }| vec![*count])
+fn count(answer: exports::Answer) -> Found<Reply> {
+    reply(answer, |exports::Answer { refusal: _, value: _, count }| vec![*count])
 }
 
 fn muid_encode_7bit_le(value: u32) -> [u8; 4] {
     let mut bytes = [0xEE; 4];
-    port::codec_muid_encode_7bit_le(value, &mut bytes);
+    exports::codec_muid_encode_7bit_le(value, &mut bytes);
     bytes
 }
 
 fn muid_generate(words: &[u32]) -> Found<Reply> {
-    let port::GeneratedAnswer { found, number } = port::codec_muid_generate(words);
+    let exports::GeneratedAnswer { found, number } = exports::codec_muid_generate(words);
     granted([found.into(), number])
 }
 
-fn fields(header: port::HeaderFields) -> Fields {
-    let port::HeaderFields { device_id, sub_id2, version, source, dest } = header;
+fn fields(header: exports::HeaderFields) -> Fields {
+    let exports::HeaderFields { device_id, sub_id2, version, source, dest } = header;
     Fields { device_id, sub_id2, version, source, dest }
 }
 
-fn header(input: &[u8]) -> port::HeaderFields {
+fn header(input: &[u8]) -> exports::HeaderFields {
     let Fields { device_id, sub_id2, version, source, dest } = Fields::read(input);
-    port::HeaderFields { device_id, sub_id2, version, source, dest }
+    exports::HeaderFields { device_id, sub_id2, version, source, dest }
 }
 
 fn header_decode(body: &[u8]) -> Found<Reply> {
-    reply(port::codec_header_decode(body), |port::HeaderAnswer { refusal: _, value: _, header }| fields(*header).values())
+    reply(exports::codec_header_decode(body), |exports::HeaderAnswer { refusal: _, value: _, header }| fields(*header).values())
 }
 
 fn kind_of(kind: u8) -> Found<Reply> {
-    let port::KindAnswer { known, sub_id2, chunked, reply } = port::codec_kind_of(kind);
+    let exports::KindAnswer { known, sub_id2, chunked, reply } = exports::codec_kind_of(kind);
     granted([known, sub_id2, chunked, reply])
 }
 
-fn caps(input: &[u8]) -> port::CapsFields {
+fn caps(input: &[u8]) -> exports::CapsFields {
     let data = from(input, Fields::END);
-    port::CapsFields {
+    exports::CapsFields {
         header: header(input),
         simultaneous_requests: u8_at(data, 0),
         pe_major: u8_at(data, 1),
@@ -110,8 +116,8 @@ fn caps(input: &[u8]) -> port::CapsFields {
 }
 
 fn caps_decode(body: &[u8]) -> Found<Reply> {
-    reply(port::codec_caps_decode(body), |port::CapsAnswer { refusal: _, value: _, caps }| {
-        let port::CapsFields { header, simultaneous_requests, pe_major, pe_minor } = *caps;
+    reply(exports::codec_caps_decode(body), |exports::CapsAnswer { refusal: _, value: _, caps }| {
+        let exports::CapsFields { header, simultaneous_requests, pe_major, pe_minor } = *caps;
         let mut values = fields(header).values();
         values.extend([simultaneous_requests, pe_major, pe_minor].map(u64::from));
         values
@@ -127,8 +133,8 @@ fn part(of: &[u8], at: u64, len: u64) -> Found<&[u8]> {
 
 /// The payload is shown as the output: it stands behind the header.
 fn message_decode(body: &[u8]) -> Found<Outcome> {
-    let answer = port::codec_message_decode(body);
-    let port::MessageAnswer { refusal, value: _, header, payload_at, payload_len } = answer;
+    let answer = exports::codec_message_decode(body);
+    let exports::MessageAnswer { refusal, value: _, header, payload_at, payload_len } = answer;
     let payload = part(body, payload_at, payload_len)?.to_vec();
     if refusal == 0 && payload_at != CI_HEADER_LEN as u64 {
         return Err(format!("a payload at {payload_at}"));
@@ -137,14 +143,14 @@ fn message_decode(body: &[u8]) -> Found<Outcome> {
 }
 
 fn alloc_out_request_id(counter: u8) -> Found<Reply> {
-    let port::RequestId { request_id, counter } = port::midici_pe_alloc_out_request_id(counter);
+    let exports::RequestId { request_id, counter } = exports::midici_pe_alloc_out_request_id(counter);
     granted([request_id, counter])
 }
 
 /// Header and property are shown as the output: the header stands at 3.
 fn chunk_decode(data: &[u8]) -> Found<Outcome> {
-    let answer = port::codec_decode_fields(data);
-    let port::ChunkAnswer { refusal, value: _, request_id, header_len, num_chunks, chunk_num, property_at, property_len } =
+    let answer = exports::codec_decode_fields(data);
+    let exports::ChunkAnswer { refusal, value: _, request_id, header_len, num_chunks, chunk_num, property_at, property_len } =
         answer;
     let header = if refusal == 0 { part(data, 3, header_len)? } else { &[] };
     let out = [header, part(data, property_at, property_len)?].concat();
@@ -154,21 +160,26 @@ fn chunk_decode(data: &[u8]) -> Found<Outcome> {
 
 fn chunk_encode(chunk: Chunk, out: &mut [u8]) -> Found<Reply> {
     let Chunk { request_id, num_chunks, chunk_num, header, property } = chunk;
-    count(port::codec_encode_chunk(request_id, header, num_chunks, chunk_num, property, out))
+    count(exports::codec_encode_chunk(request_id, header, num_chunks, chunk_num, property, out))
 }
 
 fn chunk_count(list: List) -> Found<Reply> {
     let List { request_id, max_sysex, header, body } = list;
-    count(port::midici_pe_chunk_count(request_id, header, body, max_sysex))
+    count(exports::midici_pe_chunk_count(request_id, header, body, max_sysex))
 }
 
 fn split_chunk(list: List, chunk_num: u16, out: &mut [u8]) -> Found<Reply> {
     let List { request_id, max_sysex, header, body } = list;
-    count(port::midici_pe_split_chunk(request_id, header, body, max_sysex, chunk_num, out))
+    count(exports::midici_pe_split_chunk(request_id, header, body, max_sysex, chunk_num, out))
 }
 
 fn whole_encode(whole: Whole, out: &mut [u8]) -> Found<Reply> {
     let Whole { sub_id2, source, dest, chunk } = whole;
     let Chunk { request_id, num_chunks, chunk_num, header, property } = chunk;
-    count(port::midici_pe_encode_message(sub_id2, source, dest, request_id, header, num_chunks, chunk_num, property, out))
+    count(exports::midici_pe_encode_message(sub_id2, source, dest, request_id, header, num_chunks, chunk_num, property, out))
+}
+
+fn position(index: &[u64], chunk_num: u16) -> Found<Reply> {
+    let exports::PlaceAnswer { found, place } = exports::codec_position(index, chunk_num);
+    granted([found.into(), place])
 }

@@ -1,4 +1,5 @@
 //! The port's side of a run: the memory that a table is lent, and its calls, through the exports of crates/hub.
+use crate::port::fill;
 use oracle::damage::{Damage, Place};
 use oracle::layout::{self, CLOCK, FRAGMENT_RECORDS, HEADER_BYTES, MAX_PEERS, MAX_SLOTS, SLOT_WORDS, TX_BYTES};
 use oracle::run::{Call, Lent, Part, Start, Told, What, Written};
@@ -36,7 +37,7 @@ impl Table {
     pub fn new(headers: &[u8], arenas: &[u8]) -> Table {
         let longer = |bytes: &[u8]| [bytes, &[0xC3; BEHIND]].concat();
         let index = [vec![0; MAX_SLOTS * FRAGMENT_RECORDS], vec![0xC3; BEHIND]].concat();
-        let bytes_before: Vec<u8> = (0..TX_BYTES + BEHIND).map(crate::fill).collect();
+        let bytes_before: Vec<u8> = (0..TX_BYTES + BEHIND).map(fill).collect();
         let words_before: Vec<u64> = (0..MAX_SLOTS + BEHIND).map(|at| 0xA5A5_0000_0000_0000 + at as u64).collect();
         Table {
             start: Start { max_peers: 0, spare: 0, clock: None },
@@ -125,19 +126,19 @@ impl Table {
         let ids = &mut self.out_request_ids[front(Part::OutRequestIds)];
         let held = &mut self.out_chunks_held[front(Part::OutChunksHeld)];
         match call.what {
-            What::New => counted(port::midici_pe_new(n, h, b, r, numbers, index, headers, arenas)),
-            What::Feed { peer, ref raw_chunk, now_ms: t } => {
-                fed(port::midici_pe_feed(n, h, b, r, numbers, index, headers, arenas, peer, raw_chunk, t, out_header, out_body))
-            }
+            What::New => counted(exports::midici_pe_new(n, h, b, r, numbers, index, headers, arenas)),
+            What::Feed { peer, ref raw_chunk, now_ms: t } => fed(exports::midici_pe_feed(
+                n, h, b, r, numbers, index, headers, arenas, peer, raw_chunk, t, out_header, out_body,
+            )),
             What::FeedMessage { ref body, now_ms: t } => {
-                fed(port::midici_pe_feed_message(n, h, b, r, numbers, index, headers, arenas, body, t, out_header, out_body))
+                fed(exports::midici_pe_feed_message(n, h, b, r, numbers, index, headers, arenas, body, t, out_header, out_body))
             }
-            What::Cancel { peer, request_id } => counted(port::midici_pe_cancel(n, h, b, r, numbers, peer, request_id)),
-            What::DropPeer { peer } => counted(port::midici_pe_drop_peer(n, h, b, r, numbers, peer)),
-            What::Poll { now_ms } => counted(port::midici_pe_poll(n, h, b, r, numbers, now_ms, peers, ids)),
-            What::MemoryStats => totalled(port::midici_pe_memory_stats(n, h, b, r, numbers)),
-            What::ReservedBytes => counted(port::midici_pe_reserved_bytes(n, h, b, r)),
-            What::OpenList => counted(port::midici_pe_open_list(n, h, b, r, numbers, peers, ids, held)),
+            What::Cancel { peer, request_id } => counted(exports::midici_pe_cancel(n, h, b, r, numbers, peer, request_id)),
+            What::DropPeer { peer } => counted(exports::midici_pe_drop_peer(n, h, b, r, numbers, peer)),
+            What::Poll { now_ms } => counted(exports::midici_pe_poll(n, h, b, r, numbers, now_ms, peers, ids)),
+            What::MemoryStats => totalled(exports::midici_pe_memory_stats(n, h, b, r, numbers)),
+            What::ReservedBytes => counted(exports::midici_pe_reserved_bytes(n, h, b, r)),
+            What::OpenList => counted(exports::midici_pe_open_list(n, h, b, r, numbers, peers, ids, held)),
         }
     }
 
@@ -185,17 +186,17 @@ fn output<T: Copy + PartialEq>(name: &str, out: &mut [T], written: &[T], before:
     Ok(out.len() as u64)
 }
 
-fn counted(answer: port::Answer) -> Told {
-    let port::Answer { refusal, value, count } = answer;
+fn counted(answer: exports::Answer) -> Told {
+    let exports::Answer { refusal, value, count } = answer;
     Told { refusal, value, numbers: [count, 0, 0] }
 }
 
-fn fed(answer: port::FedAnswer) -> Told {
-    let port::FedAnswer { refusal, value, whole, header_len, body_len } = answer;
+fn fed(answer: exports::FedAnswer) -> Told {
+    let exports::FedAnswer { refusal, value, whole, header_len, body_len } = answer;
     Told { refusal, value, numbers: [whole.into(), header_len, body_len] }
 }
 
-fn totalled(answer: port::StatsAnswer) -> Told {
-    let port::StatsAnswer { refusal, value, reserved_bytes, active_bytes, active_slots } = answer;
+fn totalled(answer: exports::StatsAnswer) -> Told {
+    let exports::StatsAnswer { refusal, value, reserved_bytes, active_bytes, active_slots } = answer;
     Told { refusal, value, numbers: [reserved_bytes, active_bytes, active_slots] }
 }

@@ -1,5 +1,5 @@
 //! The port's exports, as build.rs reads them from the source of the crates that have them: structs, functions over slices, the
-//! same as they are declared (`raw`), and their names (`EXPORTS`). A byte that is a yes or a no is a number here, so that one
+//! same as they are declared (`raw`), and their names (`NAMES`). A byte that is a yes or a no is a number here, so that one
 //! that is neither can be seen.
 include!(concat!(env!("OUT_DIR"), "/exports.rs"));
 

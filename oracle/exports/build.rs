@@ -90,7 +90,7 @@ fn written(structs: &[Struct], functions: &[Function]) -> String {
     let raw: String = functions.iter().map(raw_function).collect();
     writeln!(out, "pub mod raw {{\n    use super::*;\n    extern \"C\" {{\n{raw}    }}\n}}").unwrap();
     let names: Vec<&str> = functions.iter().map(|function| function.name).collect();
-    writeln!(out, "pub const EXPORTS: [&str; {}] = {names:?};", names.len()).unwrap();
+    writeln!(out, "pub const NAMES: [&str; {}] = {names:?};", names.len()).unwrap();
     out
 }
 
