@@ -1,5 +1,5 @@
-//! The original's side of the comparison: the functions that are compared, their inputs as bytes, runs of calls on a table, and the
-//! original's answers.
+//! The original's side of the comparison: the functions that are compared, their inputs as bytes, runs of calls on a table, and
+//! the original's answers.
 pub mod case;
 pub mod damage;
 pub mod export;
