@@ -63,9 +63,10 @@ def first_line(*command):
         return f"no {command[0]}"
 
 
-def machine():
-    tools = [first_line(name, "--version") for name in ("rt", "rustc", "valgrind")]
-    return f"Measured on {os.cpu_count()} cores, with {', '.join(tools)}.\n"
+def machine(counted):
+    tools = [first_line(name, "--version") for name in ("rt", "rustc") + (("valgrind",) if counted else ())]
+    before = "" if counted else " Instructions as they were counted before, since valgrind was not at hand."
+    return f"Measured on {os.cpu_count()} cores, with {', '.join(tools)}.{before}\n"
 
 
 def missed(found):
@@ -77,16 +78,39 @@ def over_copies(row):
     return f", {ratio(row.copies_ratio())} of two copies" if row.copies_target() else ""
 
 
-def written(found):
-    parts = [machine()] + [table(title, [row for row in found if row.table == name]) for name, title in TITLES.items()]
+def counts_in(text):
+    """The instructions of port and Rust that the tables have now, by table and label."""
+    counts, name = {}, None
+    for words in text.splitlines():
+        if words.startswith("### "):
+            name = next((name for name, title in TITLES.items() if words == f"### {title}"), None)
+        elif name and words.startswith("| ") and not words.startswith("| ---"):
+            label, *told = [cell.strip() for cell in words.strip("|").split("|")]
+            if label and told[4] and told[5]:
+                counts[name, label] = {side: float(cell.replace(",", "")) for side, cell in zip(("port", "rust"), told[4:])}
+    return counts
+
+
+def keep_counts(found, text):
+    """Where nothing was counted, the tables keep what they have."""
+    kept = counts_in(text)
+    for row in found:
+        row.count = kept.get((row.table, row.label()), {})
+
+
+def written(found, counted):
+    parts = [machine(counted)] + [table(title, [row for row in found if row.table == name]) for name, title in TITLES.items()]
     return "\n".join(parts + [missed(found)])
 
 
 def main():
     found = rows()
     before, rest = DOCUMENT.read_text().split(BEGIN)
-    behind = rest.split(END)[1]
-    DOCUMENT.write_text(before + BEGIN + "\n" + written(found) + "\n" + END + behind)
+    tables, behind = rest.split(END)
+    counted = any(row.count for row in found)
+    if not counted:
+        keep_counts(found, tables)
+    DOCUMENT.write_text(before + BEGIN + "\n" + written(found, counted) + "\n" + END + behind)
     print(missed(found).removeprefix("### "), end="")
 
 

@@ -1,9 +1,13 @@
 //! What is measured on, the same bytes for both sides, from a fixed seed.
 use midici_pe::chunker::split;
 use midici_pe::frame::PeChunk;
+use oracle::layout::FRAGMENT_RECORDS;
+use oracle::rng::Rng;
 
 pub const REQUEST_ID: u8 = 5;
 pub const PEER: u32 = 0x0123_4567;
+/// The peers of a table.
+pub const PEERS: usize = 16;
 const SEED: u64 = 1;
 
 pub type Chunks = &'static [Vec<u8>];
@@ -13,32 +17,17 @@ pub fn keep<T>(value: T) -> &'static T {
     Box::leak(Box::new(value))
 }
 
-/// SplitMix64.
-pub struct Rng(u64);
+/// The random numbers of an input.
+pub fn rng() -> Rng {
+    Rng::new(SEED)
+}
 
-impl Rng {
-    pub fn new() -> Rng {
-        Rng(SEED)
-    }
+pub fn bytes(rng: &mut Rng, n: usize) -> Vec<u8> {
+    (0..n).map(|_| rng.draw() as u8).collect()
+}
 
-    fn next(&mut self) -> u64 {
-        self.0 = self.0.wrapping_add(0x9E37_79B9_7F4A_7C15);
-        let z = (self.0 ^ self.0 >> 30).wrapping_mul(0xBF58_476D_1CE4_E5B9);
-        let z = (z ^ z >> 27).wrapping_mul(0x94D0_49BB_1331_11EB);
-        z ^ z >> 31
-    }
-
-    pub fn bytes(&mut self, n: usize) -> Vec<u8> {
-        (0..n).map(|_| self.next() as u8).collect()
-    }
-
-    pub fn seven_bit(&mut self, n: usize) -> Vec<u8> {
-        (0..n).map(|_| self.next() as u8 & 0x7F).collect()
-    }
-
-    fn shuffle<T>(&mut self, items: &mut [T]) {
-        (1..items.len()).rev().for_each(|i| items.swap(i, self.next() as usize % (i + 1)));
-    }
+pub fn seven_bit(rng: &mut Rng, n: usize) -> Vec<u8> {
+    bytes(rng, n).iter().map(|b| b & 0x7F).collect()
 }
 
 /// In which order the chunks of a list come.
@@ -62,7 +51,7 @@ impl Order {
     pub fn numbers(self, count: usize) -> Vec<u16> {
         let mut numbers: Vec<u16> = (1..=count as u16).collect();
         if self == Order::Shuffled {
-            Rng::new().shuffle(&mut numbers);
+            rng().shuffle(&mut numbers);
         }
         numbers
     }
@@ -87,8 +76,8 @@ impl List {
     }
 
     pub fn new(body_len: usize, max_sysex: u32) -> &'static List {
-        let mut rng = Rng::new();
-        keep(List { header: rng.seven_bit(48), body: rng.bytes(body_len), max_sysex })
+        let rng = &mut rng();
+        keep(List { header: seven_bit(rng, 48), body: bytes(rng, body_len), max_sysex })
     }
 
     pub fn name(&self, order: Order) -> String {
@@ -100,16 +89,13 @@ impl List {
     }
 }
 
-/// The most records that a slot holds.
-pub const RECORDS: usize = 2_048;
-
 /// A list that the cutter would not make: one byte in each chunk, and as many chunks as a slot has records.
 pub fn one_byte_chunks(request_id: u8) -> Vec<Vec<u8>> {
-    (1..=RECORDS as u16).map(|chunk_num| one_byte_chunk(request_id, chunk_num)).collect()
+    (1..=FRAGMENT_RECORDS as u16).map(|chunk_num| one_byte_chunk(request_id, chunk_num)).collect()
 }
 
 fn one_byte_chunk(request_id: u8, chunk_num: u16) -> Vec<u8> {
     let header = if chunk_num == 1 { b"{}".to_vec() } else { Vec::new() };
-    let chunk = PeChunk { request_id, header, num_chunks: RECORDS as u16, chunk_num, property: vec![chunk_num as u8] };
+    let chunk = PeChunk { request_id, header, num_chunks: FRAGMENT_RECORDS as u16, chunk_num, property: vec![chunk_num as u8] };
     chunk.to_vec().expect("a chunk that can be written")
 }

@@ -1,16 +1,14 @@
 //! Measures the port beside the original. `bench times` prints the times of each row, and `bench counts`, run by callgrind, has
 //! its instructions counted. A second word chooses the rows whose table and name have it in them.
 mod callgrind;
-#[allow(dead_code)]
-#[path = "../../oracle/src/bin/compare/ffi.rs"]
-mod ffi;
 mod inputs;
 mod measure;
 mod port;
+mod row;
 mod rows;
 
 use measure::Round;
-use rows::Row;
+use row::Row;
 
 const SIDES: [&str; 3] = ["port", "rust", "copies"];
 

@@ -1,5 +1,5 @@
 //! Times: in each round the sides of a row take turns.
-use crate::rows::{Row, Side};
+use crate::row::{Row, Side};
 use std::time::Instant;
 
 const ROUNDS: usize = 41;

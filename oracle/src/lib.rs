@@ -1,11 +1,15 @@
-//! The original's side of the comparison: the functions that are compared, their inputs as bytes, runs of calls on a table, and the
-//! original's answers.
+//! The original's side of the comparison: the functions that are compared, their inputs as bytes, runs of calls on a table, and
+//! the original's answers.
 pub mod case;
 pub mod damage;
-pub mod exhaustive;
 pub mod export;
+mod functions;
+pub mod input;
+mod inputs;
+pub mod layout;
 pub mod op;
 pub mod original;
 pub mod outcome;
 pub mod random;
+pub mod rng;
 pub mod run;

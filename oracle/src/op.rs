@@ -1,142 +1,178 @@
-//! The functions that are compared.
+//! The functions that are compared, a row for each.
 use crate::export::{export, Export};
+use crate::functions::{chunks, controller, cutter, mcoded7, messages, muids, records, wire};
+use crate::inputs::{self, Each};
+use crate::outcome::{Answer, Outcome};
+use crate::rng::Rng;
 
-/// How a case's input reads, of every function; bytes that are missing are 0. Numbers of two and four bytes have the low one
-/// first. HEADER is device, kind and version, a byte each, and source and destination, four bytes each. CHUNK is request id,
-/// chunk count (2), chunk number (2), the header's length (2), the header and the property. LIST is request id, limit (4), the
-/// header's length (2), the header and the body.
-#[derive(Clone, Copy, Debug, PartialEq, Eq)]
-pub enum Op {
+/// What the comparison knows of a function.
+pub struct Row {
+    /// The port's export of it, with what document 01 asks of it.
+    pub export: Export,
+    /// All inputs, or those at the boundaries.
+    pub inputs: fn(Each),
+    pub random: fn(&mut Rng) -> Vec<u8>,
+    /// The original's answer to an input, with the output that is lent.
+    pub original: fn(&[u8], Vec<u8>) -> Outcome,
+    /// Has it so few inputs that all are compared?
+    pub all_compared: bool,
+    /// Does it write into a lent output?
+    pub writes: bool,
+    /// Is its first value a yes or a no?
+    pub tells_whether: bool,
+    /// Is it in the list that the program `replay` plays?
+    pub replayed: bool,
+}
+
+const fn row(
+    name: &'static str,
+    refusals: &'static [u8],
+    inputs: fn(Each),
+    random: fn(&mut Rng) -> Vec<u8>,
+    original: fn(&[u8], Vec<u8>) -> Outcome,
+) -> Row {
+    let export = export(name, refusals);
+    Row { export, inputs, random, original, all_compared: false, writes: false, tells_whether: false, replayed: true }
+}
+
+impl Row {
+    const fn all_compared(self) -> Row {
+        Row { all_compared: true, ..self }
+    }
+
+    const fn writes(self) -> Row {
+        Row { writes: true, ..self }
+    }
+
+    const fn tells_whether(self) -> Row {
+        Row { tells_whether: true, ..self }
+    }
+
+    const fn not_replayed(self) -> Row {
+        Row { replayed: false, ..self }
+    }
+}
+
+macro_rules! functions {
+    ($($(#[$input:meta])* $op:ident: $row:expr;)*) => {
+        /// How a case's input reads, of every function; bytes that are missing are 0. Numbers of two and four bytes have the low
+        /// one first. HEADER is device, kind and version, a byte each, and source and destination, four bytes each. CHUNK is
+        /// request id, chunk count (2), chunk number (2), the header's length (2), the header and the property. LIST is request
+        /// id, limit (4), the header's length (2), the header and the body.
+        #[derive(Clone, Copy, Debug, PartialEq, Eq)]
+        pub enum Op {
+            $($(#[$input])* $op,)*
+        }
+
+        const ROWS: [Row; [$(Op::$op),*].len()] = [$($row),*];
+
+        impl Op {
+            /// Each function and the port's export of it.
+            pub const ALL: [(Op, Export); ROWS.len()] = [$((Op::$op, ROWS[Op::$op as usize].export)),*];
+        }
+    };
+}
+
+// A function's byte in the list that the program `replay` plays is its place here, so a new one stands last. 1 of Mcoded7 is the
+// Rust's answer (docs/DIFFERENCES.md).
+functions! {
     /// The bytes.
-    ReadU14Le7,
+    ReadU14Le7: row("codec_read_u14_le7", &[2, 1], wire::reads, wire::random_read, wire::read_u14_le7);
     /// Room (2), value (2).
-    WriteU14Le7,
+    WriteU14Le7: row("codec_write_u14_le7", &[3, 1], wire::writes, wire::random_write, wire::write_u14_le7).writes();
     /// Number (4); so too the next four.
-    MuidFromU32,
-    MuidOrdinary,
-    MuidIsBroadcast,
-    MuidIsReserved,
-    MuidEncode7bitLe,
+    MuidFromU32: row("codec_muid_from_u32", &[28], muids::numbers, muids::random_number, muids::from_u32);
+    MuidOrdinary: row("codec_muid_ordinary", &[28], muids::numbers, muids::random_number, muids::ordinary);
+    MuidIsBroadcast: row("codec_muid_is_broadcast", &[], muids::numbers_of_28_bits, muids::random_number_of_28_bits,
+        muids::is_broadcast).tells_whether();
+    MuidIsReserved: row("codec_muid_is_reserved", &[], muids::numbers_of_28_bits, muids::random_number_of_28_bits,
+        muids::is_reserved).tells_whether();
+    MuidEncode7bitLe: row("codec_muid_encode_7bit_le", &[], muids::numbers_of_28_bits, muids::random_number_of_28_bits,
+        muids::encode_7bit_le);
     /// Four bytes.
-    MuidDecode7bitLe,
+    MuidDecode7bitLe: row("codec_muid_decode_7bit_le", &[26], muids::four_bytes, muids::random_four_bytes, muids::decode_7bit_le);
     /// Words, four bytes each.
-    MuidGenerate,
+    MuidGenerate: row("codec_muid_generate", &[], muids::lent_words, muids::random_lent_words, muids::generate).tells_whether();
     /// The message.
-    HeaderDecode,
+    HeaderDecode: row("codec_header_decode", &[21, 22, 23, 26], messages::headers, messages::random_header,
+        messages::header_decode);
     /// Room (2), HEADER.
-    HeaderEncode,
+    HeaderEncode: row("codec_header_encode", &[28, 27], messages::headers_written, messages::random_header_written,
+        messages::header_encode).writes();
     /// Kind.
-    IsPeChunkedSubId,
+    IsPeChunkedSubId: row("codec_is_pe_chunked_sub_id", &[], inputs::any_byte, inputs::random_byte,
+        messages::is_pe_chunked_sub_id).all_compared().tells_whether();
     /// Kind.
-    KindOf,
+    KindOf: row("codec_kind_of", &[], inputs::any_byte, inputs::random_byte, messages::kind_of).all_compared().tells_whether();
     /// The message.
-    CapsDecode,
+    CapsDecode: row("codec_caps_decode", &[21, 22, 23, 26, 24, 25], messages::caps, messages::random_caps, messages::caps_decode);
     /// Room (2), HEADER, requests, major, minor.
-    CapsEncode,
+    CapsEncode: row("codec_caps_encode", &[28, 27, 26], messages::caps_written, messages::random_caps_written,
+        messages::caps_encode).writes();
     /// The message.
-    MessageDecode,
+    MessageDecode: row("codec_message_decode", &[21, 22, 23, 26, 24], messages::messages, messages::random_message,
+        messages::message_decode);
     /// Room (2), HEADER, the payload.
-    MessageEncode,
+    MessageEncode: row("codec_message_encode", &[28, 27], messages::messages_written, messages::random_message_written,
+        messages::message_encode).writes();
     /// Room (2), the text.
-    Mcoded7Decode,
+    Mcoded7Decode: row("codec_mcoded7_decode", &[9, 1, 3], mcoded7::texts, mcoded7::random_text, mcoded7::decode).writes();
     /// Room (2), the bytes.
-    Mcoded7Encode,
+    Mcoded7Encode: row("codec_mcoded7_encode", &[3], mcoded7::texts, mcoded7::random_bytes, mcoded7::encode).writes();
     /// Nothing.
-    FirstRequestId,
+    FirstRequestId: row("codec_first_request_id", &[], inputs::nothing, inputs::random_nothing,
+        controller::first_request_id).all_compared();
     /// Counter.
-    AllocOutRequestId,
+    AllocOutRequestId: row("midici_pe_alloc_out_request_id", &[], inputs::any_byte, inputs::random_byte,
+        controller::alloc_out_request_id).all_compared();
     /// Our requests, theirs.
-    NegotiatedRequests,
+    NegotiatedRequests: row("codec_negotiated_requests", &[], inputs::any_two, inputs::random_two,
+        controller::negotiated_requests).all_compared();
     /// The chunk.
-    ChunkDecode,
+    ChunkDecode: row("codec_decode_fields", &[2, 1, 8], chunks::to_decode, chunks::damaged, chunks::decode);
     /// Room (2), CHUNK.
-    ChunkEncode,
+    ChunkEncode: row("codec_encode_chunk", &[1, 8, 3], chunks::to_encode, chunks::random_to_encode, chunks::encode).writes();
     /// Room (2), the chunk.
-    ChunkRewrite,
+    ChunkRewrite: row("codec_rewrite", &[2, 1, 8, 3], chunks::to_rewrite, chunks::random_to_rewrite, chunks::rewrite).writes();
     /// Limit (4); so too the next two.
-    ClampMaxSysex,
-    PePayloadBudget,
-    LaterCapacity,
+    ClampMaxSysex: row("codec_clamp_max_sysex", &[], cutter::limits, cutter::random_limit, cutter::clamp_max_sysex);
+    PePayloadBudget: row("codec_pe_payload_budget", &[], cutter::limits, cutter::random_limit, cutter::pe_payload_budget);
+    LaterCapacity: row("codec_later_chunk_property_capacity", &[], cutter::limits, cutter::random_limit, cutter::later_capacity);
     /// Limit (4), the header's length (8).
-    FirstCapacity,
+    FirstCapacity: row("codec_first_chunk_property_capacity", &[4], cutter::header_lengths, cutter::random_header_length,
+        cutter::first_capacity);
     /// LIST.
-    ChunkCount,
+    ChunkCount: row("midici_pe_chunk_count", &[1, 4, 5], cutter::to_count, cutter::random_to_count, cutter::chunk_count);
     /// Room (2), chunk number (2), LIST.
-    SplitChunk,
+    SplitChunk: row("midici_pe_split_chunk", &[1, 4, 5, 29, 3], cutter::to_split, cutter::random_to_split,
+        cutter::split_chunk).writes();
     /// Room (2), kind, source (4), destination (4), CHUNK.
-    WholeEncode,
+    WholeEncode: row("midici_pe_encode_message", &[28, 24, 1, 8, 3], chunks::whole_to_encode, chunks::random_whole_to_encode,
+        chunks::whole_encode).writes();
+    /// Chunk number (2), records, eight bytes each.
+    Position: row("codec_position", &[], records::to_search, records::random_to_search,
+        records::position).tells_whether().not_replayed();
 }
 
 impl Op {
-    /// Each function and the port's export of it, with what document 01 asks of it; 1 of Mcoded7 is the Rust's answer
-    /// (docs/DIFFERENCES.md).
-    pub const ALL: [(Op, Export); 32] = [
-        (Op::ReadU14Le7, export("codec_read_u14_le7", &[2, 1])),
-        (Op::WriteU14Le7, export("codec_write_u14_le7", &[3, 1])),
-        (Op::MuidFromU32, export("codec_muid_from_u32", &[28])),
-        (Op::MuidOrdinary, export("codec_muid_ordinary", &[28])),
-        (Op::MuidIsBroadcast, export("codec_muid_is_broadcast", &[])),
-        (Op::MuidIsReserved, export("codec_muid_is_reserved", &[])),
-        (Op::MuidEncode7bitLe, export("codec_muid_encode_7bit_le", &[])),
-        (Op::MuidDecode7bitLe, export("codec_muid_decode_7bit_le", &[26])),
-        (Op::MuidGenerate, export("codec_muid_generate", &[])),
-        (Op::HeaderDecode, export("codec_header_decode", &[21, 22, 23, 26])),
-        (Op::HeaderEncode, export("codec_header_encode", &[28, 27])),
-        (Op::IsPeChunkedSubId, export("codec_is_pe_chunked_sub_id", &[])),
-        (Op::KindOf, export("codec_kind_of", &[])),
-        (Op::CapsDecode, export("codec_caps_decode", &[21, 22, 23, 26, 24, 25])),
-        (Op::CapsEncode, export("codec_caps_encode", &[28, 27, 26])),
-        (Op::MessageDecode, export("codec_message_decode", &[21, 22, 23, 26, 24])),
-        (Op::MessageEncode, export("codec_message_encode", &[28, 27])),
-        (Op::Mcoded7Decode, export("codec_mcoded7_decode", &[9, 1, 3])),
-        (Op::Mcoded7Encode, export("codec_mcoded7_encode", &[3])),
-        (Op::FirstRequestId, export("codec_first_request_id", &[])),
-        (Op::AllocOutRequestId, export("midici_pe_alloc_out_request_id", &[])),
-        (Op::NegotiatedRequests, export("codec_negotiated_requests", &[])),
-        (Op::ChunkDecode, export("codec_decode_fields", &[2, 1, 8])),
-        (Op::ChunkEncode, export("codec_encode_chunk", &[1, 8, 3])),
-        (Op::ChunkRewrite, export("codec_rewrite", &[2, 1, 8, 3])),
-        (Op::ClampMaxSysex, export("codec_clamp_max_sysex", &[])),
-        (Op::PePayloadBudget, export("codec_pe_payload_budget", &[])),
-        (Op::LaterCapacity, export("codec_later_chunk_property_capacity", &[])),
-        (Op::FirstCapacity, export("codec_first_chunk_property_capacity", &[4])),
-        (Op::ChunkCount, export("midici_pe_chunk_count", &[1, 4, 5])),
-        (Op::SplitChunk, export("midici_pe_split_chunk", &[1, 4, 5, 29, 3])),
-        (Op::WholeEncode, export("midici_pe_encode_message", &[28, 24, 1, 8, 3])),
-    ];
+    pub fn row(self) -> &'static Row {
+        &ROWS[self as usize]
+    }
 
     /// The byte by which the program `replay` knows it.
     pub fn code(self) -> u8 {
         self as u8 + 1
     }
+}
 
-    /// Has it so few inputs that all are compared?
-    pub fn all_compared(self) -> bool {
-        use Op::*;
-        matches!(self, IsPeChunkedSubId | KindOf | FirstRequestId | AllocOutRequestId | NegotiatedRequests)
-    }
-
-    /// Does it write into a lent output?
-    pub fn writes(self) -> bool {
-        use Op::*;
-        matches!(
-            self,
-            WriteU14Le7
-                | HeaderEncode
-                | CapsEncode
-                | MessageEncode
-                | Mcoded7Decode
-                | Mcoded7Encode
-                | ChunkEncode
-                | ChunkRewrite
-                | SplitChunk
-                | WholeEncode
-        )
-    }
-
-    /// Is its first value a yes or a no?
-    pub fn tells_whether(self) -> bool {
-        use Op::*;
-        matches!(self, MuidIsBroadcast | MuidIsReserved | MuidGenerate | IsPeChunkedSubId | KindOf)
+impl Outcome {
+    /// The sort of answer that a function gave.
+    pub fn answer(&self, op: Op) -> Answer {
+        match &self.reply {
+            Err(refusal) => Answer::Refused(refusal.number),
+            Ok(values) if op.row().tells_whether && values[0] == 0 => Answer::No,
+            Ok(_) if op.row().tells_whether => Answer::Yes,
+            Ok(_) => Answer::Granted,
+        }
     }
 }

@@ -1,5 +1,6 @@
 //! What a call leaves, in document 01's terms.
-use crate::op::Op;
+use midici_core::error::CiError;
+use midici_pe::error::PeError;
 use std::fmt;
 
 /// The number of the question that was answered no, and its value: 24 has the kind, the others 0.
@@ -7,6 +8,39 @@ use std::fmt;
 pub struct Refusal {
     pub number: u8,
     pub value: u8,
+}
+
+impl From<CiError> for Refusal {
+    fn from(e: CiError) -> Refusal {
+        let (number, value) = match e {
+            CiError::Truncated => (21, 0),
+            CiError::NotUniversalSysex => (22, 0),
+            CiError::NotMidiCi => (23, 0),
+            CiError::UnsupportedSubId2(kind) => (24, kind),
+            CiError::BadLength => (25, 0),
+            CiError::BadField => (26, 0),
+            CiError::BufferTooSmall => (27, 0),
+            CiError::InvalidMuid => (28, 0),
+        };
+        Refusal { number, value }
+    }
+}
+
+impl From<PeError> for Refusal {
+    fn from(e: PeError) -> Refusal {
+        let number = match e {
+            PeError::BadField => 1,
+            PeError::Truncated => 2,
+            PeError::BufferTooSmall => 3,
+            PeError::HeaderTooLarge => 4,
+            PeError::Oversize => 5,
+            PeError::TooManyConcurrent => 6,
+            PeError::PeerTableFull => 7,
+            PeError::InconsistentChunking => 8,
+            PeError::BadMcoded7 => 9,
+        };
+        Refusal { number, value: 0 }
+    }
 }
 
 /// The values that are granted, or the refusal.
@@ -36,14 +70,17 @@ impl Outcome {
         Outcome { reply, out: Vec::new() }
     }
 
-    pub fn answer(&self, op: Op) -> Answer {
-        match &self.reply {
-            Err(refusal) => Answer::Refused(refusal.number),
-            Ok(values) if op.tells_whether() && values[0] == 0 => Answer::No,
-            Ok(_) if op.tells_whether() => Answer::Yes,
-            Ok(_) => Answer::Granted,
-        }
+    /// Of one that grants values and writes nothing.
+    pub fn granted<T: Into<u64>>(values: impl IntoIterator<Item = T>) -> Outcome {
+        Outcome::of(Ok(values.into_iter().map(Into::into).collect()))
     }
+}
+
+/// What the original returns as a new list, in the front of a lent output. "Buffer? 3."
+pub fn copy_in(bytes: &[u8], out: &mut [u8]) -> Reply {
+    let room = out.get_mut(..bytes.len()).ok_or(Refusal::from(PeError::BufferTooSmall))?;
+    room.copy_from_slice(bytes);
+    Ok(vec![bytes.len() as u64])
 }
 
 /// Refusals by their numbers.

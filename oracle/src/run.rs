@@ -1,12 +1,8 @@
 //! A run: a table of full size, and calls on it.
 use crate::damage::Damage;
 use crate::export::{export, Export};
+use crate::layout::{numbers_len, slots, FRAGMENT_RECORDS, HEADER_BYTES, TX_BYTES};
 use std::fmt;
-
-/// Full size.
-pub const HEADER_BYTES: usize = 4_096;
-pub const TX_BYTES: usize = 65_536;
-pub const FRAGMENT_RECORDS: usize = 2_048;
 
 /// How a table is made: for so many peers, in memory that is longer than it needs by so many places; and the clock that it
 /// starts with, where that is another than after `new`.
@@ -23,7 +19,7 @@ pub struct Start {
 pub enum Lent {
     Right,
     Shape(usize),
-    Short(usize),
+    Short(Part),
 }
 
 /// A call, and how the slot that it reaches is damaged before, where it is.
@@ -47,22 +43,88 @@ pub enum What {
     OpenList,
 }
 
-impl What {
-    /// With what document 01 asks of each. The source of a message is read from bytes of 28 bits, so it is not asked 28.
-    pub const EXPORTS: [Export; 9] = [
-        export("midici_pe_new", &[30]),
-        export("midici_pe_feed", &[30, 28, 2, 1, 8, 7, 6, 31, 4, 5]),
-        export("midici_pe_feed_message", &[30, 21, 22, 23, 26, 24, 2, 1, 8, 7, 6, 31, 4, 5]),
-        export("midici_pe_cancel", &[30, 28]),
-        export("midici_pe_drop_peer", &[30, 28]),
-        export("midici_pe_poll", &[30]),
-        export("midici_pe_memory_stats", &[30]),
-        export("midici_pe_reserved_bytes", &[30]),
-        export("midici_pe_open_list", &[30]),
-    ];
+/// The slices that calls are lent.
+#[derive(Clone, Copy, Debug, PartialEq, Eq)]
+pub enum Part {
+    Numbers,
+    Index,
+    Headers,
+    Arenas,
+    OutHeader,
+    OutBody,
+    OutPeers,
+    OutRequestIds,
+    OutChunksHeld,
+}
 
-    pub fn export(&self) -> Export {
-        Self::EXPORTS[match self {
+/// What a call that is not refused tells.
+#[derive(Clone, Copy)]
+pub enum Tells {
+    /// Nothing that is counted.
+    Granted,
+    /// Whether a list is whole.
+    Whole,
+    /// How many there were, and so whether there was any.
+    Whether,
+}
+
+/// What the comparison knows of a table's call.
+pub struct Row {
+    /// The port's export of it, with what document 01 asks of it.
+    pub export: Export,
+    pub lent: &'static [Part],
+    pub tells: Tells,
+}
+
+const fn row(name: &'static str, refusals: &'static [u8], lent: &'static [Part], tells: Tells) -> Row {
+    Row { export: export(name, refusals), lent, tells }
+}
+
+const NUMBERS: [Part; 1] = [Part::Numbers];
+const TABLE: [Part; 4] = [Part::Numbers, Part::Index, Part::Headers, Part::Arenas];
+const FED: [Part; 6] = [Part::Numbers, Part::Index, Part::Headers, Part::Arenas, Part::OutHeader, Part::OutBody];
+const POLLED: [Part; 3] = [Part::Numbers, Part::OutPeers, Part::OutRequestIds];
+const LISTED: [Part; 4] = [Part::Numbers, Part::OutPeers, Part::OutRequestIds, Part::OutChunksHeld];
+
+/// In the order of `What::place`. The source of a message is read from bytes of 28 bits, so it is not asked 28.
+static ROWS: [Row; 9] = [
+    row("midici_pe_new", &[30], &TABLE, Tells::Granted),
+    row("midici_pe_feed", &[30, 28, 2, 1, 8, 7, 6, 31, 4, 5], &FED, Tells::Whole),
+    row("midici_pe_feed_message", &[30, 21, 22, 23, 26, 24, 2, 1, 8, 7, 6, 31, 4, 5], &FED, Tells::Whole),
+    row("midici_pe_cancel", &[30, 28], &NUMBERS, Tells::Whether),
+    row("midici_pe_drop_peer", &[30, 28], &NUMBERS, Tells::Whether),
+    row("midici_pe_poll", &[30], &POLLED, Tells::Whether),
+    row("midici_pe_memory_stats", &[30], &NUMBERS, Tells::Granted),
+    row("midici_pe_reserved_bytes", &[30], &[], Tells::Granted),
+    row("midici_pe_open_list", &[30], &LISTED, Tells::Whether),
+];
+
+impl Part {
+    /// How many places it needs, of a table for so many peers.
+    pub fn need(self, max_peers: usize) -> usize {
+        match self {
+            Part::Numbers => numbers_len(max_peers),
+            Part::Index => slots(max_peers) * FRAGMENT_RECORDS,
+            Part::Headers => slots(max_peers) * HEADER_BYTES,
+            Part::Arenas => slots(max_peers) * TX_BYTES,
+            Part::OutHeader => HEADER_BYTES,
+            Part::OutBody => TX_BYTES,
+            Part::OutPeers | Part::OutRequestIds | Part::OutChunksHeld => slots(max_peers),
+        }
+    }
+}
+
+impl What {
+    pub fn exports() -> impl Iterator<Item = Export> {
+        ROWS.iter().map(|row| row.export)
+    }
+
+    pub fn row(&self) -> &'static Row {
+        &ROWS[self.place()]
+    }
+
+    fn place(&self) -> usize {
+        match self {
             What::New => 0,
             What::Feed { .. } => 1,
             What::FeedMessage { .. } => 2,
@@ -72,7 +134,7 @@ impl What {
             What::MemoryStats => 6,
             What::ReservedBytes => 7,
             What::OpenList => 8,
-        }]
+        }
     }
 
     /// The peer that it names, other than in a message.
@@ -82,27 +144,11 @@ impl What {
             _ => None,
         }
     }
-
-    /// How many places each slice needs that is lent, of a table for so many peers.
-    pub fn needs(&self, max_peers: usize) -> Vec<usize> {
-        let numbers = 1 + 38 * max_peers;
-        let slots = 4 * max_peers;
-        match self {
-            What::New => vec![numbers, slots * FRAGMENT_RECORDS, slots * HEADER_BYTES, slots * TX_BYTES],
-            What::Feed { .. } | What::FeedMessage { .. } => {
-                vec![numbers, slots * FRAGMENT_RECORDS, slots * HEADER_BYTES, slots * TX_BYTES, HEADER_BYTES, TX_BYTES]
-            }
-            What::Poll { .. } => vec![numbers, slots, slots],
-            What::OpenList => vec![numbers, slots, slots, slots],
-            What::ReservedBytes => Vec::new(),
-            _ => vec![numbers],
-        }
-    }
 }
 
 impl fmt::Display for Call {
     fn fmt(&self, f: &mut fmt::Formatter) -> fmt::Result {
-        write!(f, "{}", self.what.export().name)?;
+        write!(f, "{}", self.what.row().export.name)?;
         if self.lent != Lent::Right {
             write!(f, " lent {:?}", self.lent)?;
         }

@@ -1,9 +1,10 @@
 //! All chunks of a list fed to an empty slot, until it is whole.
-use super::{Row, PEERS};
-use crate::inputs::{one_byte_chunks, Chunks, List, Order, PEER, RECORDS, REQUEST_ID};
+use crate::inputs::{one_byte_chunks, Chunks, List, Order, PEER, PEERS, REQUEST_ID};
 use crate::port;
+use crate::row::Row;
 use midici_core::muid::Muid;
 use midici_pe::reassembler::{ReassembleEvent, Reassembler};
+use oracle::layout::FRAGMENT_RECORDS;
 use std::hint::black_box;
 
 pub fn each(visit: &mut impl FnMut(Row)) {
@@ -13,7 +14,7 @@ pub fn each(visit: &mut impl FnMut(Row)) {
         }
     }
     for order in Order::ALL {
-        visit(row(format!("{RECORDS} chunks of one byte, {}", order.name()), order.of(one_byte_chunks(REQUEST_ID))));
+        visit(row(format!("{FRAGMENT_RECORDS} chunks of one byte, {}", order.name()), order.of(one_byte_chunks(REQUEST_ID))));
     }
 }
 

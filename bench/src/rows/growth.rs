@@ -1,27 +1,28 @@
 //! One chunk fed where some records are held already. To have more than the clock's own time to measure, each run feeds one
 //! chunk to each of sixteen slots that hold as many.
-use super::{Row, Side, PEERS};
-use crate::inputs::{keep, one_byte_chunks, PEER, RECORDS};
+use crate::inputs::{keep, one_byte_chunks, PEER, PEERS};
 use crate::port;
+use crate::row::{Row, Side};
 use midici_core::muid::Muid;
+use midici_pe::reassembler::probe::PEER_SLOTS;
 use midici_pe::reassembler::Reassembler;
+use oracle::layout::FRAGMENT_RECORDS;
 use std::hint::black_box;
 
 /// The chunks for each slot.
 type Lists = &'static [Vec<Vec<u8>>];
 
 const SLOTS: usize = 16;
-const SLOTS_PER_PEER: usize = 4;
 
 pub fn each(visit: &mut impl FnMut(Row)) {
     let lists: Lists = keep((0..SLOTS).map(|slot| one_byte_chunks(slot as u8)).collect::<Vec<_>>());
     let mut held = 1;
-    while held < RECORDS {
+    while held < FRAGMENT_RECORDS {
         visit(row(lists, held, "waiting"));
         held *= 2;
     }
-    visit(row(lists, RECORDS - 2, "waiting"));
-    visit(row(lists, RECORDS - 1, "whole"));
+    visit(row(lists, FRAGMENT_RECORDS - 2, "waiting"));
+    visit(row(lists, FRAGMENT_RECORDS - 1, "whole"));
 }
 
 fn row(lists: Lists, held: usize, answer: &str) -> Row {
@@ -69,13 +70,13 @@ struct Growing<T> {
 }
 
 fn peer_of(slot: usize) -> u32 {
-    PEER + (slot / SLOTS_PER_PEER) as u32
+    PEER + (slot / PEER_SLOTS) as u32
 }
 
 impl<T: Table> Side for Growing<T> {
     /// Empties all slots, and feeds as many chunks as are to be held.
     fn prepare(&mut self) {
-        (0..SLOTS).step_by(SLOTS_PER_PEER).for_each(|slot| self.table.drop_peer(peer_of(slot)));
+        (0..SLOTS).step_by(PEER_SLOTS).for_each(|slot| self.table.drop_peer(peer_of(slot)));
         for (slot, list) in self.lists.iter().enumerate() {
             list[..self.held].iter().for_each(|chunk| assert!(!self.table.feed(peer_of(slot), chunk)));
         }

@@ -1,31 +1,34 @@
 //! The readers: each over many inputs, and called through a pointer on both sides, so that neither is built into the loop.
-use super::Row;
-use crate::inputs::{keep, List, Rng, REQUEST_ID};
-use crate::{ffi, port};
+use crate::inputs::{bytes, keep, rng, seven_bit, List, REQUEST_ID};
+use crate::port;
+use crate::row::Row;
+use exports::raw;
 use midici_core::header::CiHeader;
 use midici_core::pe_caps::PeCapabilities;
 use midici_core::spec::{SUB_ID2_PE_CAPS_INQUIRY, SUB_ID2_PE_GET_INQUIRY};
 use midici_pe::chunker::split;
 use midici_pe::frame::PeChunkRef;
 use midici_pe::{mcoded7, wire};
+use oracle::rng::Rng;
 use std::hint::black_box;
 
 type Inputs = &'static [Vec<u8>];
 type FromPort<A> = unsafe extern "C" fn(*const u8, usize) -> A;
+type FromRust<A, E> = fn(&'static [u8]) -> Result<A, E>;
 
 /// How many inputs a reader has.
 const INPUTS: usize = 64;
 
 pub fn each(visit: &mut impl FnMut(Row)) {
-    let mut rng = Rng::new();
+    let mut rng = rng();
     let chunks = List::new(65_536, 256).chunks();
     visit(chunk("chunk 1 at 256, header of 48 bytes", many(|_| chunks[0].clone())));
     visit(chunk("later chunk at 256, no header", many(|k| chunks[k + 1].clone())));
     visit(chunk("chunk 1 at 4096, header of 4000 bytes", many(|_| with_long_header(&mut rng))));
-    visit(field(many(|_| rng.seven_bit(2))));
+    visit(field(many(|_| seven_bit(&mut rng, 2))));
     visit(header(many(|_| message(&mut rng, SUB_ID2_PE_GET_INQUIRY, &[]))));
     visit(capabilities(many(|_| message(&mut rng, SUB_ID2_PE_CAPS_INQUIRY, &[4, 0, 0]))));
-    [1_000, 65_536].iter().for_each(|len| visit(mcoded7_text(keep(rng.bytes(*len)))));
+    [1_000, 65_536].iter().for_each(|len| visit(mcoded7_text(keep(bytes(&mut rng, *len)))));
 }
 
 fn many(make: impl FnMut(usize) -> Vec<u8>) -> Inputs {
@@ -33,11 +36,11 @@ fn many(make: impl FnMut(usize) -> Vec<u8>) -> Inputs {
 }
 
 fn with_long_header(rng: &mut Rng) -> Vec<u8> {
-    split(REQUEST_ID, &rng.seven_bit(4_000), &rng.bytes(10), 4_096).expect("a list that can be cut").remove(0)
+    split(REQUEST_ID, &seven_bit(rng, 4_000), &bytes(rng, 10), 4_096).expect("a list that can be cut").remove(0)
 }
 
 fn message(rng: &mut Rng, sub_id2: u8, data: &[u8]) -> Vec<u8> {
-    [&[0x7E, 0x7F, 0x0D, sub_id2, 2], &rng.seven_bit(8)[..], data].concat()
+    [&[0x7E, 0x7F, 0x0D, sub_id2, 2], &seven_bit(rng, 8)[..], data].concat()
 }
 
 /// Each side gives the fields that it read, and all of them are added up, as a caller would take them from the answer.
@@ -60,8 +63,8 @@ fn reader<const FIELDS: usize>(
 }
 
 fn chunk(name: &str, inputs: Inputs) -> Row {
-    let decode: FromPort<ffi::ChunkAnswer> = black_box(ffi::codec_decode_fields);
-    let rust: fn(&'static [u8]) -> Result<PeChunkRef<'static>, _> = black_box(PeChunkRef::decode);
+    let decode: FromPort<exports::ChunkAnswer> = black_box(raw::codec_decode_fields);
+    let rust: FromRust<PeChunkRef<'static>, _> = black_box(PeChunkRef::decode);
     let by_port = move |input: &'static [u8]| {
         let chunk = unsafe { decode(input.as_ptr(), input.len()) };
         let (header, property) = (chunk.header_len, chunk.property_len);
@@ -75,22 +78,22 @@ fn chunk(name: &str, inputs: Inputs) -> Row {
 }
 
 fn field(inputs: Inputs) -> Row {
-    let read: FromPort<ffi::Answer> = black_box(ffi::codec_read_u14_le7);
-    let rust: fn(&'static [u8]) -> Result<u16, _> = black_box(wire::read_u14_le7);
+    let read: FromPort<exports::Answer> = black_box(raw::codec_read_u14_le7);
+    let rust: FromRust<u16, _> = black_box(wire::read_u14_le7);
     let by_port = move |input: &'static [u8]| [unsafe { read(input.as_ptr(), input.len()) }.count];
     reader("field of 14 bits", inputs, by_port, move |input| [rust(input).expect("a good field") as u64])
 }
 
 fn header(inputs: Inputs) -> Row {
-    let decode: FromPort<ffi::HeaderAnswer> = black_box(ffi::codec_header_decode);
-    let rust: fn(&'static [u8]) -> Result<(CiHeader, &'static [u8]), _> = black_box(CiHeader::decode);
+    let decode: FromPort<exports::HeaderAnswer> = black_box(raw::codec_header_decode);
+    let rust: FromRust<(CiHeader, &'static [u8]), _> = black_box(CiHeader::decode);
     let by_port = move |input: &'static [u8]| port_header(&unsafe { decode(input.as_ptr(), input.len()) }.header);
     reader("CI header", inputs, by_port, move |input| rust_header(&rust(input).expect("a good header").0))
 }
 
 fn capabilities(inputs: Inputs) -> Row {
-    let decode: FromPort<ffi::CapsAnswer> = black_box(ffi::codec_caps_decode);
-    let rust: fn(&'static [u8]) -> Result<PeCapabilities, _> = black_box(PeCapabilities::decode);
+    let decode: FromPort<exports::CapsAnswer> = black_box(raw::codec_caps_decode);
+    let rust: FromRust<PeCapabilities, _> = black_box(PeCapabilities::decode);
     let by_port = move |input: &'static [u8]| {
         let caps = unsafe { decode(input.as_ptr(), input.len()) }.caps;
         let [device, kind, version, source, dest] = port_header(&caps.header);
@@ -103,7 +106,7 @@ fn capabilities(inputs: Inputs) -> Row {
     })
 }
 
-fn port_header(header: &ffi::HeaderFields) -> [u64; 5] {
+fn port_header(header: &exports::HeaderFields) -> [u64; 5] {
     [header.device_id as u64, header.sub_id2 as u64, header.version as u64, header.source as u64, header.dest as u64]
 }
 

@@ -1,8 +1,8 @@
 //! A list cut: its chunks counted, and each of them written. The Rust gives them all in one new list, in order; the port
 //! writes one after the other into one buffer, in any order.
-use super::Row;
 use crate::inputs::{List, Order, REQUEST_ID};
 use crate::port;
+use crate::row::Row;
 use midici_pe::chunker::split;
 use std::hint::black_box;
 

@@ -42,19 +42,20 @@ pub mod probe {
             self.0.last_activity_ms
         }
 
-        /// Its numbers, in the order in which the port stores them.
-        pub fn words(self) -> [u64; 9] {
-            [
-                self.0.active.into(),
-                self.0.request_id.into(),
-                self.0.last_activity_ms,
-                self.0.lru_tick,
-                self.0.num_chunks.into(),
-                self.0.header_set.into(),
-                self.0.header.len() as u64,
-                self.0.index.len() as u64,
-                self.0.property_bytes as u64,
-            ]
+        pub fn lru_tick(self) -> u64 {
+            self.0.lru_tick
+        }
+
+        pub fn num_chunks(self) -> u16 {
+            self.0.num_chunks
+        }
+
+        pub fn header_set(self) -> bool {
+            self.0.header_set
+        }
+
+        pub fn property_bytes(self) -> usize {
+            self.0.property_bytes
         }
 
         pub fn header(self) -> &'a [u8] {
@@ -82,6 +83,15 @@ pub mod probe {
         pub fn arena_room(self) -> &'a [u8] {
             room(&self.0.arena)
         }
+    }
+
+    /// The first place at which a record has the number. Which one has it is asked by the expression with which `feed_chunk`
+    /// looks for a chunk that is held already, cut out by layout.sh.
+    pub fn position(records: impl Iterator<Item = (u16, u16, u32)>, chunk_num: u16) -> Option<usize> {
+        let record = |(chunk_num, len, offset)| FragmentMeta { chunk_num, offset, len };
+        let index: Vec<FragmentMeta> = records.map(record).collect();
+        let chunk = record((chunk_num, 0, 0));
+        index.iter().position(include!("../cut/is_held.rs"))
     }
 
     /// All that a vector has room for. `Rooms::new` wrote all of it once, and no call shrinks it.

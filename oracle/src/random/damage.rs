@@ -1,7 +1,7 @@
 //! Random damage to a slot.
-use super::Rng;
-use crate::damage::{Damage, Place, BODY_LEN, LENGTHS, ROOMS};
-use crate::run::{FRAGMENT_RECORDS, TX_BYTES};
+use crate::damage::{Damage, Place, LENGTHS, ROOMS};
+use crate::layout::{slot_words, BODY_LEN, FRAGMENT_RECORDS, LEN_BIT, TX_BYTES};
+use crate::rng::Rng;
 use midici_pe::reassembler::probe::Slot;
 
 /// Mostly one of its lengths or records; now and then three of them, or a body around its room.
@@ -25,7 +25,7 @@ fn one(rng: &mut Rng, slot: Slot) -> Damage {
 fn length(rng: &mut Rng, slot: Slot) -> Damage {
     let which = rng.below(LENGTHS.len());
     let (at, room) = (LENGTHS[which], ROOMS[which]);
-    let is = slot.words()[at];
+    let is = slot_words(slot)[at];
     let bit = 1 << rng.below(64);
     let becomes = rng.pick(&[room, room + 1, u64::MAX, is + 1, is.wrapping_sub(1), is ^ bit]);
     Damage { at: Place::Word(at), bits: is ^ becomes }
@@ -40,12 +40,12 @@ fn record(rng: &mut Rng, slot: Slot) -> Damage {
 /// The last record longer, so that the body's length is still the sum and within one of the room; nothing where a record cannot
 /// be that long.
 fn body_around_its_room(rng: &mut Rng, slot: Slot) -> Vec<Damage> {
-    let is = slot.words()[BODY_LEN];
+    let is = slot_words(slot)[BODY_LEN];
     let becomes = rng.around(TX_BYTES) as u64;
     let last = slot.records().checked_sub(1).and_then(|at| Some((at, slot.index_room().nth(at)?.1)));
     let longer = |(at, len): (usize, u16)| {
         let len_becomes = u16::try_from(u64::from(len) + becomes.checked_sub(is)?).ok()?;
-        let record = Damage { at: Place::Record(at), bits: u64::from(len ^ len_becomes) << 16 };
+        let record = Damage { at: Place::Record(at), bits: u64::from(len ^ len_becomes) << LEN_BIT };
         Some(vec![record, Damage { at: Place::Word(BODY_LEN), bits: is ^ becomes }])
     };
     last.and_then(longer).unwrap_or_default()

@@ -1,5 +1,7 @@
 //! Random lists for a run, as the original cuts them or as chunks are written one by one, and chunks made wrong.
-use super::{chunks, seven_bit, Rng};
+use crate::functions::{chunks, cutter};
+use crate::inputs::seven_bit;
+use crate::rng::Rng;
 use midici_pe::chunker::{first_chunk_property_capacity, later_chunk_property_capacity, split};
 use midici_pe::frame::PeChunk;
 
@@ -40,7 +42,7 @@ fn small(rng: &mut Rng, request_id: u8) -> Vec<Vec<u8>> {
 
 /// Any limit, and any header that it takes.
 fn any(rng: &mut Rng, request_id: u8) -> Vec<Vec<u8>> {
-    let max_sysex = chunks::limit(rng);
+    let max_sysex = cutter::any_limit(rng);
     let later = later_chunk_property_capacity(max_sysex);
     let header_len = if rng.once_in(4) { later } else { rng.below(later + 1) };
     let first = first_chunk_property_capacity(max_sysex, header_len).expect("a header that fits");

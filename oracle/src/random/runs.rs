@@ -1,9 +1,11 @@
 //! Random runs: a table, and the calls on it, one after the other.
 use super::damage::damage;
 use super::lists::{self, Sizes};
-use super::{Rng, KINDS};
 use crate::damage::Damage;
+use crate::functions::chunks;
+use crate::inputs::{change, KINDS};
 use crate::original::table::reached;
+use crate::rng::Rng;
 use crate::run::{Call, Lent, Start, What};
 use midici_core::header::CiHeader;
 use midici_core::muid::Muid;
@@ -51,7 +53,7 @@ impl Script {
         let start = Start { max_peers, spare: rng.pick(&[0, 0, 3]), clock: clock(&mut rng) };
         let sizes = sizes(&mut rng);
         let named = 1 + rng.below(max_peers + 2);
-        let peers = (0..named).map(|_| if rng.once_in(3) { rng.pick(&EDGE_PEERS) } else { rng.next() as u32 >> 4 }).collect();
+        let peers = (0..named).map(|_| if rng.once_in(3) { rng.pick(&EDGE_PEERS) } else { rng.draw() as u32 >> 4 }).collect();
         let ids = 1 + rng.below(REQUEST_IDS.len());
         let mut script = Script {
             start,
@@ -118,12 +120,13 @@ impl Script {
         if right || self.is_first_list() {
             return Lent::Right;
         }
-        let needs = what.needs(self.start.max_peers);
-        let short = self.rng.below(needs.len().max(1));
-        if self.rng.once_in(2) || needs.get(short).is_none_or(|n| *n == 0) {
-            Lent::Shape(self.rng.below(4))
-        } else {
-            Lent::Short(short)
+        let lent = what.row().lent;
+        let short = lent.get(self.rng.below(lent.len().max(1)));
+        let short = short.filter(|part| part.need(self.start.max_peers) > 0);
+        let shape = self.rng.once_in(2);
+        match short {
+            Some(part) if !shape => Lent::Short(*part),
+            _ => Lent::Shape(self.rng.below(4)),
         }
     }
 
@@ -141,7 +144,7 @@ impl Script {
     /// A peer of the run, now and then any number.
     fn named(&mut self) -> u32 {
         match self.rng.below(64) {
-            0 => self.rng.next() as u32,
+            0 => self.rng.draw() as u32,
             1 => self.rng.pick(&[0x1000_0000, u32::MAX]),
             _ => self.rng.pick(&self.peers),
         }
@@ -209,7 +212,7 @@ impl Script {
 
     /// A chunk that no list has, under any peer of the run or any number.
     fn feed_any(&mut self) -> What {
-        What::Feed { peer: self.named(), raw_chunk: super::chunks::damaged(&mut self.rng), now_ms: self.now_ms }
+        What::Feed { peer: self.named(), raw_chunk: chunks::damaged(&mut self.rng), now_ms: self.now_ms }
     }
 
     /// A chunk by itself, or in a message.
@@ -258,15 +261,15 @@ impl Script {
             sub_id2: rng.pick(&[0x34, 0x35, 0x36, 0x37, 0x38, 0x39, 0x3F]),
             version: rng.byte(),
             source: muid(peer),
-            dest: muid(rng.next() as u32 >> 4),
+            dest: muid(rng.draw() as u32 >> 4),
         };
         let mut body = PeMessage { header, pe_payload: chunk }.to_vec().expect("a message that can be written");
         if !first_list && rng.once_in(self.wrong_in) {
             match rng.below(4) {
-                0 => super::change(rng, &mut body[..13]),
+                0 => change(rng, &mut body[..13]),
                 1 => body.truncate(rng.below(14)),
                 2 => body[3] = rng.pick(&KINDS),
-                _ => super::change(rng, &mut body),
+                _ => change(rng, &mut body),
             }
         }
         body

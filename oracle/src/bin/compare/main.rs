@@ -1,7 +1,7 @@
 //! Compares the port with the original: `compare SEED CASES RUNS`. All inputs of a function where they are few; else all that are
 //! short or at the boundaries, and then CASES random ones; then RUNS runs of calls on a table. It stops at the first difference.
-//! It fails too where an export never gave a refusal that it can give.
-mod ffi;
+//! It fails too where an export is not compared, or never gave a refusal that it can give. `compare exports` prints the names of
+//! the exports that are compared.
 mod port;
 mod runs;
 mod state;
@@ -13,20 +13,35 @@ use oracle::export::{Export, NONE_OF_HUB};
 use oracle::op::Op;
 use oracle::random::Rng;
 use oracle::run::What;
-use oracle::{exhaustive, original, random};
+use oracle::{original, random};
+use std::collections::BTreeSet;
 use std::process::ExitCode;
 use summary::Summary;
 
-/// What the lent output holds before a call.
-fn fill(at: usize) -> u8 {
-    (at * 73 + 0xA5) as u8
+/// So many runs give every refusal that an export can give; the inputs at the boundaries give all of a function's.
+const RUNS_FOR_ALL: u64 = 2_000;
+
+fn compared() -> Vec<Export> {
+    Op::ALL.iter().map(|(_, export)| *export).chain(What::exports()).collect()
+}
+
+/// Is every export compared that the source declares, and is every one declared that is compared?
+fn check_exports() -> Result<(), String> {
+    let compared: BTreeSet<&str> = compared().iter().map(|export| export.name).collect();
+    let declared = BTreeSet::from(exports::NAMES);
+    let (missing, unknown) = (&declared - &compared, &compared - &declared);
+    if missing.is_empty() && unknown.is_empty() {
+        return Ok(());
+    }
+    Err(format!("NOT ALL EXPORTS: not compared: {missing:?}; compared, but not in the source: {unknown:?}"))
 }
 
 /// Puts one case to both sides.
 fn compare(case: &Case, export: Export, summary: &mut Summary) -> Result<(), String> {
-    let expected = original::answer(case, case.lent(fill));
-    let found = port::answer(case, case.lent(fill));
-    if expected != found {
+    let expected = original::answer(case, case.lent(port::fill));
+    let found = port::answer(case, case.lent(port::fill));
+    if found.as_ref() != Ok(&expected) {
+        let found = found.map_or_else(|wrong| wrong, |found| found.to_string());
         return Err(format!("{case}\n  the original: {expected}\n  the port:     {found}"));
     }
     summary.count(export, expected.answer(case.op));
@@ -37,14 +52,14 @@ fn compare(case: &Case, export: Export, summary: &mut Summary) -> Result<(), Str
 /// All comparisons of one function.
 fn compare_all(op: Op, export: Export, seed: u64, cases: u64, summary: &mut Summary) -> Result<(), String> {
     let mut result = Ok(());
-    exhaustive::inputs(op, &mut |input| {
+    (op.row().inputs)(&mut |input| {
         if result.is_ok() {
             result = compare(&Case { op, input: input.to_vec() }, export, summary);
         }
     });
     result?;
     let mut rng = Rng::new(seed ^ u64::from(op.code()) << 56);
-    let cases = if op.all_compared() { 0 } else { cases };
+    let cases = if op.row().all_compared { 0 } else { cases };
     (0..cases).try_for_each(|_| compare(&random::case(op, &mut rng), export, summary))
 }
 
@@ -53,7 +68,7 @@ fn compare_functions(seed: u64, cases: u64, summary: &mut Summary) -> Result<(),
     println!("How often each export was called, and each answer came, refusals by their numbers:");
     for (op, export) in Op::ALL {
         compare_all(op, export, seed, cases, summary)?;
-        let all = if op.all_compared() { ", all inputs" } else { "" };
+        let all = if op.row().all_compared { ", all inputs" } else { "" };
         println!("{}{all}", summary.line(export));
     }
     Ok(())
@@ -62,33 +77,50 @@ fn compare_functions(seed: u64, cases: u64, summary: &mut Summary) -> Result<(),
 fn compare_runs(seed: u64, runs: u64, summary: &mut Summary) -> Result<(), String> {
     println!("{runs} runs of sixty calls, and more with lists of some 2,048 chunks, on tables of 0, 1, 2, 8 and 16 peers");
     runs::compare(seed, runs, summary)?;
-    What::EXPORTS.iter().for_each(|export| println!("{}", summary.line(*export)));
+    What::exports().for_each(|export| println!("{}", summary.line(export)));
     Ok(())
 }
 
-fn number(args: &[String], at: usize) -> Result<u64, String> {
-    let word = args.get(at).ok_or("usage: compare SEED CASES RUNS")?;
-    word.parse().map_err(|e| format!("{word}: {e}"))
+/// Did the exports give every refusal that they can give, and no other? Of fewer runs than reach them all it is only said.
+fn check_refusals(runs: u64, summary: &Summary) -> Result<(), String> {
+    summary.check(&compared()).map_err(|unknown| format!("REFUSALS THAT ARE NOT LISTED: {unknown}"))?;
+    match summary.missing(&compared()) {
+        None => println!("Each export gave every refusal that it can give; those of hub together all but {NONE_OF_HUB:?}."),
+        Some(missing) if runs >= RUNS_FOR_ALL => return Err(format!("NOT ALL REFUSALS: {missing}")),
+        Some(missing) => println!("Too few runs to reach every refusal: {missing}. RUNS={RUNS_FOR_ALL} reaches all."),
+    }
+    Ok(())
 }
 
-fn run() -> Result<(), String> {
-    let args: Vec<String> = std::env::args().collect();
-    let (seed, cases, runs) = (number(&args, 1)?, number(&args, 2)?, number(&args, 3)?);
+fn number(word: &str, name: &str) -> Result<u64, String> {
+    word.parse().map_err(|e| format!("{name} is {word}: {e}"))
+}
+
+fn compare_both(seed: u64, cases: u64, runs: u64) -> Result<(), String> {
     let mut summary = Summary::default();
     let differs = |difference| format!("DIFFERENCE: {difference}");
     compare_functions(seed, cases, &mut summary).map_err(differs)?;
     compare_runs(seed, runs, &mut summary).map_err(differs)?;
-    let exports: Vec<Export> = Op::ALL.iter().map(|(_, export)| *export).chain(What::EXPORTS).collect();
-    println!("{}, no difference", summary.totals(&exports));
-    summary
-        .check(&exports)
-        .map_err(|missing| format!("NOT ALL REFUSALS: {missing} (the gate's 20000 cases and 10000 runs give all)"))?;
-    println!("Each export gave every refusal that it can give; those of hub together all but {NONE_OF_HUB:?}.");
-    Ok(())
+    println!("{}, no difference", summary.totals(&compared()));
+    check_refusals(runs, &summary)
+}
+
+fn run(args: &[&str]) -> Result<(), String> {
+    check_exports()?;
+    match args {
+        ["exports"] => {
+            compared().iter().for_each(|export| println!("{}", export.name));
+            Ok(())
+        }
+        [seed, cases, runs] => compare_both(number(seed, "SEED")?, number(cases, "CASES")?, number(runs, "RUNS")?),
+        _ => Err("usage: compare SEED CASES RUNS, or compare exports".into()),
+    }
 }
 
 fn main() -> ExitCode {
-    match run() {
+    let args: Vec<String> = std::env::args().skip(1).collect();
+    let words: Vec<&str> = args.iter().map(String::as_str).collect();
+    match run(&words) {
         Ok(()) => ExitCode::SUCCESS,
         Err(message) => {
             println!("{message}");

@@ -1,18 +1,21 @@
 //! Runs of calls on a table, each put to the port and to the original, with all that both hold compared after every call.
 use crate::state;
 use crate::summary::Summary;
-use crate::table::{Table, MAX_SLOTS};
+use crate::table::Table;
 use midici_pe::reassembler::{probe, probe::Rooms, Reassembler};
 use oracle::damage::is_sound;
+use oracle::layout::{HEADER_BYTES, MAX_SLOTS, TX_BYTES};
 use oracle::original;
 use oracle::outcome::Answer;
 use oracle::random::runs::Script;
 use oracle::random::Rng;
-use oracle::run::{Call, Start, Told, What, Written, HEADER_BYTES, TX_BYTES};
+use oracle::run::{Call, Start, Tells, Told, What, Written};
 
 /// One run in so many has all rooms compared after every call; the others when they end.
 const CLOSELY: u64 = 64;
 const LONGEST_SHORTENED: usize = 100;
+/// After so many runs it is told how far they are.
+const TOLD_AFTER: u64 = 20_000;
 
 /// Both sides, with memory that a table takes over from the one before it.
 struct Sides {
@@ -46,7 +49,7 @@ impl Sides {
         if told != (Told { refusal: 0, value: 0, numbers: [0; 3] }) {
             return Err(format!("new answers {told:?}"));
         }
-        summary.count(What::New.export(), answer(&What::New, told));
+        summary.count(What::New.row().export, answer(&What::New, told));
         let pair = Pair { sides: self, original, garbage, closely };
         summary.bytes += pair.state()? + state::compare_rooms(&pair.sides.table, &pair.original)?;
         Ok(pair)
@@ -67,7 +70,7 @@ impl Pair<'_> {
         if expected != found {
             return Err(format!("the original answers {expected:?}, the port {found:?}"));
         }
-        summary.count(call.what.export(), answer(&call.what, found));
+        summary.count(call.what.row().export, answer(&call.what, found));
         summary.bytes += self.sides.table.outputs(&call.what, &written)? + self.state()?;
         if self.closely {
             summary.bytes += state::compare_rooms(&self.sides.table, &self.original)?;
@@ -90,7 +93,7 @@ impl Pair<'_> {
             return Err(format!("the port answers {found:?}"));
         }
         table.damage(slot, &call.damage);
-        summary.count(call.what.export(), Answer::Refused(31));
+        summary.count(call.what.row().export, Answer::Refused(31));
         summary.bytes += table.outputs(&call.what, &Written::default())? + self.state()?;
         summary.bytes += state::compare_rooms(&self.sides.table, &self.original)?;
         Ok(())
@@ -116,13 +119,13 @@ impl Pair<'_> {
 }
 
 fn answer(what: &What, told: Told) -> Answer {
-    match what {
+    match what.row().tells {
         _ if told.refusal != 0 => Answer::Refused(told.refusal),
-        What::Feed { .. } | What::FeedMessage { .. } if told.numbers[0] == 0 => Answer::Waiting,
-        What::Feed { .. } | What::FeedMessage { .. } => Answer::Whole,
-        What::New | What::MemoryStats | What::ReservedBytes => Answer::Granted,
-        _ if told.numbers[0] == 0 => Answer::No,
-        _ => Answer::Yes,
+        Tells::Granted => Answer::Granted,
+        Tells::Whole if told.numbers[0] == 0 => Answer::Waiting,
+        Tells::Whole => Answer::Whole,
+        Tells::Whether if told.numbers[0] == 0 => Answer::No,
+        Tells::Whether => Answer::Yes,
     }
 }
 
@@ -178,6 +181,9 @@ fn shortened(mut found: String, mut played: Played) -> (String, Played) {
 pub fn compare(seed: u64, runs: u64, summary: &mut Summary) -> Result<(), String> {
     let mut sides = Sides::new();
     for run in 0..runs {
+        if run > 0 && run.is_multiple_of(TOLD_AFTER) {
+            println!("  {run} runs, no difference");
+        }
         play(&mut sides, seed, run, summary).map_err(|(difference, played)| {
             let (difference, Played { start, calls }) = shortened(difference, played);
             let shown = &calls[calls.len().saturating_sub(LONGEST_SHORTENED)..];

@@ -2,23 +2,23 @@
 use crate::table::Table;
 use midici_pe::reassembler::probe::{self, Slot};
 use midici_pe::reassembler::Reassembler;
-use oracle::run::{FRAGMENT_RECORDS, HEADER_BYTES, TX_BYTES};
+use oracle::layout::{self, record_word, slot_words, BOUND, CLOCK, FRAGMENT_RECORDS, HEADER_BYTES, MUID, TX_BYTES};
 
 /// The clock, every record and every number of each slot, and of each open slot header, records and body; and that the numbers
 /// behind the table hold the garbage that was there.
 pub fn compare(table: &Table, r: &Reassembler, garbage: u64) -> Result<u64, String> {
-    same("the clock", table.numbers[0], probe::clock(r))?;
+    same("the clock", table.numbers[CLOCK], probe::clock(r))?;
     let mut bytes = 0;
     for p in 0..probe::max_peers(r) {
-        let words = &table.numbers[1 + 38 * p..];
+        let words = &table.numbers[layout::peer_at(p)..];
         let (bound, muid) = probe::peer(r, p);
-        same_at("bound", p, words[0], bound.into())?;
-        same_at("muid", p, words[1], muid.into())?;
+        same_at("bound", p, words[BOUND], bound.into())?;
+        same_at("muid", p, words[MUID], muid.into())?;
         for s in 0..probe::PEER_SLOTS {
             let slot = probe::slot(r, p, s);
-            let nine = table.slot_words(probe::PEER_SLOTS * p + s);
-            if nine != slot.words() {
-                return Err(format!("slot {s} of record {p} has {nine:?}, the original's has {:?}", slot.words()));
+            let (found, expected) = (table.slot_words(probe::PEER_SLOTS * p + s), slot_words(slot));
+            if found != expected {
+                return Err(format!("slot {s} of record {p} has {found:?}, the original's has {expected:?}"));
             }
             if slot.is_active() {
                 bytes += in_use(table, probe::PEER_SLOTS * p + s, slot)?;
@@ -45,11 +45,6 @@ fn same_at(name: &str, p: usize, port: u64, original: u64) -> Result<(), String>
     Ok(())
 }
 
-/// A record as the port stores it.
-fn packed((chunk_num, len, offset): (u16, u16, u32)) -> u64 {
-    u64::from(chunk_num) | u64::from(len) << 16 | u64::from(offset) << 32
-}
-
 /// What an open slot has stored.
 fn in_use(table: &Table, slot: usize, original: Slot) -> Result<u64, String> {
     let (header, arena, records) = (original.header(), original.arena(), original.records());
@@ -57,7 +52,7 @@ fn in_use(table: &Table, slot: usize, original: Slot) -> Result<u64, String> {
     if table.headers[slot * HEADER_BYTES..][..header.len()] != *header {
         return Err(format!("the header in room {slot} is not the original's"));
     }
-    if !index.iter().copied().eq(original.index_room().take(records).map(packed)) {
+    if !index.iter().copied().eq(original.index_room().take(records).map(record_word)) {
         return Err(format!("the records in room {slot} are not the original's"));
     }
     if table.arenas[slot * TX_BYTES..][..arena.len()] != *arena {
@@ -73,7 +68,7 @@ pub fn compare_rooms(table: &Table, r: &Reassembler) -> Result<u64, String> {
         if table.headers[slot * HEADER_BYTES..][..HEADER_BYTES] != *original.header_room() {
             return Err(format!("header room {slot} is not kept"));
         }
-        if !table.slot_records(slot).iter().copied().eq(original.index_room().map(packed)) {
+        if !table.slot_records(slot).iter().copied().eq(original.index_room().map(record_word)) {
             return Err(format!("the records' room {slot} is not kept"));
         }
         if table.arenas[slot * TX_BYTES..][..TX_BYTES] != *original.arena_room() {

@@ -26,6 +26,11 @@ fn refusals(answers: &Answers) -> BTreeSet<u8> {
     answers.keys().filter_map(number).collect()
 }
 
+/// The numbers with which an export can refuse.
+fn listed(export: &Export) -> BTreeSet<u8> {
+    export.refusals.iter().copied().collect()
+}
+
 impl Summary {
     pub fn count(&mut self, export: Export, answer: Answer) {
         *self.answers.entry(export.name).or_default().entry(answer).or_default() += 1;
@@ -63,19 +68,25 @@ impl Summary {
             + &format!("{calls} calls, {bytes} bytes of outputs and memory compared")
     }
 
-    /// Did each export give every refusal that it can give, and no other; and those of hub together all but `NONE_OF_HUB`?
+    /// Did an export give a refusal that it cannot give?
     pub fn check(&self, exports: &[Export]) -> Result<(), String> {
-        for export in exports {
-            let (given, can) = (refusals(&self.of(*export)), BTreeSet::from_iter(export.refusals.iter().copied()));
-            if given != can {
-                return Err(format!("{} gave {given:?}, and can give {can:?}", export.name));
-            }
-        }
-        let hub: Vec<Export> = exports.iter().copied().filter(|export| export.is_of_hub()).collect();
-        let (given, none) = (refusals(&self.of_all(&hub)), BTreeSet::from(NONE_OF_HUB));
-        if given != &BTreeSet::from(NUMBERS) - &none {
-            return Err(format!("hub gave {given:?}, and can give all but {none:?}"));
-        }
-        Ok(())
+        exports.iter().try_for_each(|export| match &refusals(&self.of(*export)) - &listed(export) {
+            unknown if unknown.is_empty() => Ok(()),
+            unknown => Err(format!("{} gave {unknown:?}, and can give {:?}", export.name, export.refusals)),
+        })
+    }
+
+    /// Which refusals did an export not give that it can give? And do those of hub together give all but `NONE_OF_HUB`?
+    pub fn missing(&self, exports: &[Export]) -> Option<String> {
+        let one = |export: &Export| {
+            let missing = &listed(export) - &refusals(&self.of(*export));
+            (!missing.is_empty()).then(|| format!("{} did not give {missing:?}", export.name))
+        };
+        let of_hub = || {
+            let hub: Vec<Export> = exports.iter().copied().filter(|export| export.is_of_hub()).collect();
+            let missing = &(&BTreeSet::from(NUMBERS) - &BTreeSet::from(NONE_OF_HUB)) - &refusals(&self.of_all(&hub));
+            (!missing.is_empty()).then(|| format!("hub did not give {missing:?}"))
+        };
+        exports.iter().find_map(one).or_else(of_hub)
     }
 }

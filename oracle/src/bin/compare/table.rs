@@ -1,11 +1,9 @@
 //! The port's side of a run: the memory that a table is lent, and its calls, through the exports of crates/hub.
-use crate::ffi;
+use crate::port::fill;
 use oracle::damage::{Damage, Place};
-use oracle::run::{Call, Lent, Start, Told, What, Written, FRAGMENT_RECORDS, HEADER_BYTES, TX_BYTES};
+use oracle::layout::{self, CLOCK, FRAGMENT_RECORDS, HEADER_BYTES, MAX_PEERS, MAX_SLOTS, SLOT_WORDS, TX_BYTES};
+use oracle::run::{Call, Lent, Part, Start, Told, What, Written};
 
-/// The most peers and slots that a table has.
-const MAX_PEERS: usize = 16;
-pub const MAX_SLOTS: usize = 4 * MAX_PEERS;
 /// Places behind what the largest table needs.
 const BEHIND: usize = 8;
 
@@ -39,11 +37,11 @@ impl Table {
     pub fn new(headers: &[u8], arenas: &[u8]) -> Table {
         let longer = |bytes: &[u8]| [bytes, &[0xC3; BEHIND]].concat();
         let index = [vec![0; MAX_SLOTS * FRAGMENT_RECORDS], vec![0xC3; BEHIND]].concat();
-        let bytes_before: Vec<u8> = (0..TX_BYTES + BEHIND).map(crate::fill).collect();
+        let bytes_before: Vec<u8> = (0..TX_BYTES + BEHIND).map(fill).collect();
         let words_before: Vec<u64> = (0..MAX_SLOTS + BEHIND).map(|at| 0xA5A5_0000_0000_0000 + at as u64).collect();
         Table {
             start: Start { max_peers: 0, spare: 0, clock: None },
-            numbers: vec![0; 1 + 38 * MAX_PEERS + BEHIND],
+            numbers: vec![0; layout::numbers_len(MAX_PEERS) + BEHIND],
             index,
             headers: longer(headers),
             arenas: longer(arenas),
@@ -59,20 +57,15 @@ impl Table {
 
     /// How many words of `numbers` a table of this run has.
     pub fn words(&self) -> usize {
-        1 + 38 * self.start.max_peers
+        layout::numbers_len(self.start.max_peers)
     }
 
     pub fn slots(&self) -> usize {
-        4 * self.start.max_peers
-    }
-
-    /// Where the nine words of a slot begin.
-    fn words_at(slot: usize) -> usize {
-        3 + 38 * (slot / 4) + 9 * (slot % 4)
+        layout::slots(self.start.max_peers)
     }
 
     pub fn slot_words(&self, slot: usize) -> &[u64] {
-        &self.numbers[Self::words_at(slot)..][..9]
+        &self.numbers[layout::slot_at(slot)..][..SLOT_WORDS]
     }
 
     pub fn slot_records(&self, slot: usize) -> &[u64] {
@@ -83,7 +76,7 @@ impl Table {
     pub fn damage(&mut self, slot: usize, damage: &[Damage]) {
         for Damage { at, bits } in damage {
             match at {
-                Place::Word(k) => self.numbers[Self::words_at(slot) + k] ^= bits,
+                Place::Word(k) => self.numbers[layout::slot_at(slot) + k] ^= bits,
                 Place::Record(k) => self.index[slot * FRAGMENT_RECORDS + k] ^= bits,
             }
         }
@@ -104,7 +97,7 @@ impl Table {
         self.index[..MAX_SLOTS * FRAGMENT_RECORDS].iter_mut().step_by(641).for_each(|word| *word = garbage);
         let told = self.call(&Call { lent: Lent::Right, what: What::New, damage: Vec::new() });
         if let Some(clock) = start.clock {
-            self.numbers[0] = clock;
+            self.numbers[CLOCK] = clock;
         }
         told
     }
@@ -119,175 +112,33 @@ impl Table {
         }
     }
 
-    /// How long each slice is that a call is lent.
-    fn lengths(&self, call: &Call) -> Vec<usize> {
-        let mut lengths = call.what.needs(self.start.max_peers);
-        lengths.iter_mut().for_each(|n| *n += self.start.spare);
-        if let Lent::Short(which) = call.lent {
-            lengths[which] -= self.start.spare + 1;
-        }
-        lengths
-    }
-
     pub fn call(&mut self, call: &Call) -> Told {
-        let shape = self.shape(call.lent);
-        let lengths = self.lengths(call);
-        match &call.what {
-            What::New => self.new_table(&shape, &lengths),
-            What::Feed { peer, raw_chunk, now_ms } => self.feed(&shape, &lengths, Some(*peer), raw_chunk, *now_ms),
-            What::FeedMessage { body, now_ms } => self.feed(&shape, &lengths, None, body, *now_ms),
-            What::Poll { now_ms } => self.poll(&shape, &lengths, *now_ms),
-            What::OpenList => self.open_list(&shape, &lengths),
-            what => self.other(&shape, &lengths, what),
-        }
-    }
-
-    fn new_table(&mut self, shape: &Shape, lengths: &[usize]) -> Told {
-        let numbers = &mut self.numbers[..lengths[0]];
-        let index = &mut self.index[..lengths[1]];
-        let headers = &self.headers[..lengths[2]];
-        let arenas = &self.arenas[..lengths[3]];
-        counted(unsafe {
-            ffi::midici_pe_new(
-                shape.max_peers,
-                shape.header_bytes,
-                shape.tx_bytes,
-                shape.fragment_records,
-                numbers.as_mut_ptr(),
-                numbers.len(),
-                index.as_mut_ptr(),
-                index.len(),
-                headers.as_ptr(),
-                headers.len(),
-                arenas.as_ptr(),
-                arenas.len(),
-            )
-        })
-    }
-
-    /// A chunk of a peer, or a message.
-    fn feed(&mut self, shape: &Shape, lengths: &[usize], peer: Option<u32>, bytes: &[u8], now_ms: u64) -> Told {
-        let Shape { max_peers, header_bytes, tx_bytes, fragment_records } = *shape;
-        let numbers = &mut self.numbers[..lengths[0]];
-        let index = &mut self.index[..lengths[1]];
-        let headers = &mut self.headers[..lengths[2]];
-        let arenas = &mut self.arenas[..lengths[3]];
-        let out_header = &mut self.out_header[..lengths[4]];
-        let out_body = &mut self.out_body[..lengths[5]];
-        let answer = match peer {
-            Some(peer) => unsafe {
-                ffi::midici_pe_feed(
-                    max_peers,
-                    header_bytes,
-                    tx_bytes,
-                    fragment_records,
-                    numbers.as_mut_ptr(),
-                    numbers.len(),
-                    index.as_mut_ptr(),
-                    index.len(),
-                    headers.as_mut_ptr(),
-                    headers.len(),
-                    arenas.as_mut_ptr(),
-                    arenas.len(),
-                    peer,
-                    bytes.as_ptr(),
-                    bytes.len(),
-                    now_ms,
-                    out_header.as_mut_ptr(),
-                    out_header.len(),
-                    out_body.as_mut_ptr(),
-                    out_body.len(),
-                )
-            },
-            None => unsafe {
-                ffi::midici_pe_feed_message(
-                    max_peers,
-                    header_bytes,
-                    tx_bytes,
-                    fragment_records,
-                    numbers.as_mut_ptr(),
-                    numbers.len(),
-                    index.as_mut_ptr(),
-                    index.len(),
-                    headers.as_mut_ptr(),
-                    headers.len(),
-                    arenas.as_mut_ptr(),
-                    arenas.len(),
-                    bytes.as_ptr(),
-                    bytes.len(),
-                    now_ms,
-                    out_header.as_mut_ptr(),
-                    out_header.len(),
-                    out_body.as_mut_ptr(),
-                    out_body.len(),
-                )
-            },
-        };
-        let ffi::FedAnswer { refusal, value, whole, header_len, body_len } = answer;
-        Told { refusal, value, numbers: [whole.into(), header_len, body_len] }
-    }
-
-    fn poll(&mut self, shape: &Shape, lengths: &[usize], now_ms: u64) -> Told {
-        let numbers = &mut self.numbers[..lengths[0]];
-        let out_peers = &mut self.out_peers[..lengths[1]];
-        let out_request_ids = &mut self.out_request_ids[..lengths[2]];
-        counted(unsafe {
-            ffi::midici_pe_poll(
-                shape.max_peers,
-                shape.header_bytes,
-                shape.tx_bytes,
-                shape.fragment_records,
-                numbers.as_mut_ptr(),
-                numbers.len(),
-                now_ms,
-                out_peers.as_mut_ptr(),
-                out_peers.len(),
-                out_request_ids.as_mut_ptr(),
-                out_request_ids.len(),
-            )
-        })
-    }
-
-    fn open_list(&mut self, shape: &Shape, lengths: &[usize]) -> Told {
-        let numbers = &self.numbers[..lengths[0]];
-        let out_peers = &mut self.out_peers[..lengths[1]];
-        let out_request_ids = &mut self.out_request_ids[..lengths[2]];
-        let out_chunks_held = &mut self.out_chunks_held[..lengths[3]];
-        counted(unsafe {
-            ffi::midici_pe_open_list(
-                shape.max_peers,
-                shape.header_bytes,
-                shape.tx_bytes,
-                shape.fragment_records,
-                numbers.as_ptr(),
-                numbers.len(),
-                out_peers.as_mut_ptr(),
-                out_peers.len(),
-                out_request_ids.as_mut_ptr(),
-                out_request_ids.len(),
-                out_chunks_held.as_mut_ptr(),
-                out_chunks_held.len(),
-            )
-        })
-    }
-
-    /// A call that is lent the numbers or nothing.
-    fn other(&mut self, shape: &Shape, lengths: &[usize], what: &What) -> Told {
-        let Shape { max_peers: n, header_bytes: h, tx_bytes: b, fragment_records: r } = *shape;
-        let numbers = &mut self.numbers[..lengths.first().copied().unwrap_or(0)];
-        let (at, len) = (numbers.as_mut_ptr(), numbers.len());
-        match what {
-            What::Cancel { peer, request_id } => {
-                counted(unsafe { ffi::midici_pe_cancel(n, h, b, r, at, len, *peer, *request_id) })
+        let Shape { max_peers: n, header_bytes: h, tx_bytes: b, fragment_records: r } = self.shape(call.lent);
+        let start = self.start;
+        let front = |part| ..length(start, call, part);
+        let numbers = &mut self.numbers[front(Part::Numbers)];
+        let index = &mut self.index[front(Part::Index)];
+        let headers = &mut self.headers[front(Part::Headers)];
+        let arenas = &mut self.arenas[front(Part::Arenas)];
+        let out_header = &mut self.out_header[front(Part::OutHeader)];
+        let out_body = &mut self.out_body[front(Part::OutBody)];
+        let peers = &mut self.out_peers[front(Part::OutPeers)];
+        let ids = &mut self.out_request_ids[front(Part::OutRequestIds)];
+        let held = &mut self.out_chunks_held[front(Part::OutChunksHeld)];
+        match call.what {
+            What::New => counted(exports::midici_pe_new(n, h, b, r, numbers, index, headers, arenas)),
+            What::Feed { peer, ref raw_chunk, now_ms: t } => fed(exports::midici_pe_feed(
+                n, h, b, r, numbers, index, headers, arenas, peer, raw_chunk, t, out_header, out_body,
+            )),
+            What::FeedMessage { ref body, now_ms: t } => {
+                fed(exports::midici_pe_feed_message(n, h, b, r, numbers, index, headers, arenas, body, t, out_header, out_body))
             }
-            What::DropPeer { peer } => counted(unsafe { ffi::midici_pe_drop_peer(n, h, b, r, at, len, *peer) }),
-            What::MemoryStats => {
-                let stats = unsafe { ffi::midici_pe_memory_stats(n, h, b, r, at, len) };
-                let ffi::StatsAnswer { refusal, value, reserved_bytes, active_bytes, active_slots } = stats;
-                Told { refusal, value, numbers: [reserved_bytes, active_bytes, active_slots] }
-            }
-            What::ReservedBytes => counted(unsafe { ffi::midici_pe_reserved_bytes(n, h, b, r) }),
-            _ => unreachable!("a call that is lent more"),
+            What::Cancel { peer, request_id } => counted(exports::midici_pe_cancel(n, h, b, r, numbers, peer, request_id)),
+            What::DropPeer { peer } => counted(exports::midici_pe_drop_peer(n, h, b, r, numbers, peer)),
+            What::Poll { now_ms } => counted(exports::midici_pe_poll(n, h, b, r, numbers, now_ms, peers, ids)),
+            What::MemoryStats => totalled(exports::midici_pe_memory_stats(n, h, b, r, numbers)),
+            What::ReservedBytes => counted(exports::midici_pe_reserved_bytes(n, h, b, r)),
+            What::OpenList => counted(exports::midici_pe_open_list(n, h, b, r, numbers, peers, ids, held)),
         }
     }
 
@@ -310,6 +161,19 @@ impl Table {
     }
 }
 
+/// How long a slice is, where a call is lent it.
+fn length(start: Start, call: &Call, part: Part) -> usize {
+    if !call.what.row().lent.contains(&part) {
+        return 0;
+    }
+    let need = part.need(start.max_peers);
+    if call.lent == Lent::Short(part) {
+        need - 1
+    } else {
+        need + start.spare
+    }
+}
+
 fn output<T: Copy + PartialEq>(name: &str, out: &mut [T], written: &[T], before: &[T]) -> Result<u64, String> {
     let n = written.len();
     if out[..n] != *written {
@@ -322,6 +186,17 @@ fn output<T: Copy + PartialEq>(name: &str, out: &mut [T], written: &[T], before:
     Ok(out.len() as u64)
 }
 
-fn counted(answer: ffi::Answer) -> Told {
-    Told { refusal: answer.refusal, value: answer.value, numbers: [answer.count, 0, 0] }
+fn counted(answer: exports::Answer) -> Told {
+    let exports::Answer { refusal, value, count } = answer;
+    Told { refusal, value, numbers: [count, 0, 0] }
+}
+
+fn fed(answer: exports::FedAnswer) -> Told {
+    let exports::FedAnswer { refusal, value, whole, header_len, body_len } = answer;
+    Told { refusal, value, numbers: [whole.into(), header_len, body_len] }
+}
+
+fn totalled(answer: exports::StatsAnswer) -> Told {
+    let exports::StatsAnswer { refusal, value, reserved_bytes, active_bytes, active_slots } = answer;
+    Told { refusal, value, numbers: [reserved_bytes, active_bytes, active_slots] }
 }

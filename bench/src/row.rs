@@ -1,0 +1,43 @@
+//! A row: what both sides do.
+use std::hint::black_box;
+
+/// One side of a row.
+pub trait Side {
+    /// What goes before each run and is not measured.
+    fn prepare(&mut self) {}
+    fn run(&mut self);
+}
+
+impl<F: FnMut()> Side for F {
+    fn run(&mut self) {
+        self()
+    }
+}
+
+pub struct Row {
+    pub table: &'static str,
+    pub name: String,
+    /// How many operations one run is made of.
+    pub operations: u64,
+    /// Is there something to go before each run?
+    pub prepared: bool,
+    /// The port, the Rust, and where there is a body two copies of it.
+    pub sides: Vec<Box<dyn Side>>,
+}
+
+impl Row {
+    pub fn new(table: &'static str, name: String, port: impl Side + 'static, rust: impl Side + 'static) -> Row {
+        Row { table, name, operations: 1, prepared: false, sides: vec![Box::new(port), Box::new(rust)] }
+    }
+
+    /// Beside two copies of a body.
+    pub fn beside_copies(mut self, body: &'static [u8]) -> Row {
+        let (mut arena, mut out) = (vec![1; body.len()], vec![1; body.len()]);
+        self.sides.push(Box::new(move || {
+            arena.copy_from_slice(black_box(body));
+            out.copy_from_slice(black_box(&arena));
+            black_box(&out);
+        }));
+        self
+    }
+}

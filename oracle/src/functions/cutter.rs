@@ -1,0 +1,167 @@
+//! chunker.rs: capacities, and lists that are cut.
+use super::chunks::{body, header, headers, random_header, random_number, random_request_id, IDS};
+use crate::input::{from, u16_at, u32_at, u64_at, List};
+use crate::inputs::{with_random_room, with_room, Each};
+use crate::outcome::{copy_in, Outcome, Refusal};
+use crate::rng::Rng;
+use midici_pe::chunker::{self, first_chunk_property_capacity, later_chunk_property_capacity};
+
+const LIMITS: [u32; 11] = [0, 127, 128, 129, 130, 256, 4_095, 4_096, 4_097, 5_000, u32::MAX];
+
+/// All limits up to 5,000, and the last ones.
+pub fn limits(each: Each) {
+    (0..=5_000).chain(u32::MAX - 5_000..=u32::MAX).for_each(|limit: u32| each(&limit.to_le_bytes()));
+}
+
+/// Header lengths to above every budget, and the last ones that the original can add to.
+pub fn header_lengths(each: Each) {
+    let last = u64::MAX - 9;
+    let lengths = (0..=5_000).chain(16_380..=16_390).chain([1 << 31, 1 << 32, 1 << 63]).chain(last - 3..=last);
+    for header_len in lengths {
+        LIMITS.iter().for_each(|limit| each(&[&limit.to_le_bytes()[..], &header_len.to_le_bytes()].concat()));
+    }
+}
+
+/// Body lengths within one of what the first chunk carries, alone and with one to three later ones; and 0 and 1.
+fn body_lengths(max_sysex: u32, header_len: usize) -> Vec<usize> {
+    let first = first_chunk_property_capacity(max_sysex, header_len).unwrap_or(0);
+    let later = later_chunk_property_capacity(max_sysex);
+    let full = (0..=3).flat_map(|n| (0..3).map(move |d| (first + n * later + d).saturating_sub(1)));
+    let mut lengths: Vec<usize> = [0, 1].into_iter().chain(full).collect();
+    lengths.sort();
+    lengths.dedup();
+    lengths
+}
+
+/// Lists with all header lengths 0 to 130, and some around what a chunk and a field hold; then a few that the first questions
+/// turn down, or not.
+fn lists(each: &mut dyn FnMut(List)) {
+    let longer = [4_071, 4_072, 4_073, 16_383, 16_384, 16_385];
+    for (max_sysex, n) in LIMITS.iter().flat_map(|limit| (0..=130).chain(longer).map(|n| (*limit, n))) {
+        let header = &header(n)[..];
+        for body_len in body_lengths(max_sysex, n) {
+            each(List { request_id: 5, max_sysex, header, body: &body(body_len) });
+        }
+    }
+    for (request_id, n) in IDS.iter().flat_map(|id| [0, 1, 104, 105, 16_383, 16_384].map(|n| (*id, n))) {
+        for header in &headers(n) {
+            [0, 1, 300].iter().for_each(|len| each(List { request_id, max_sysex: 128, header, body: &body(*len) }));
+        }
+    }
+}
+
+/// At limit 128, bodies within one of what the most chunks carry, and one of 65,537 chunks.
+fn long_lists(each: &mut dyn FnMut(List)) {
+    for n in [0, 1, 104] {
+        let full = (104 - n) + 16_382 * 104;
+        for len in [full - 1, full, full + 1, (104 - n) + 65_536 * 104] {
+            each(List { request_id: 5, max_sysex: 128, header: &header(n), body: &body(len) });
+        }
+    }
+}
+
+pub fn to_count(each: Each) {
+    lists(&mut |list| each(&list.bytes()));
+    long_lists(&mut |list| each(&list.bytes()));
+}
+
+fn split_case(room: usize, chunk_num: usize, list: List) -> Vec<u8> {
+    with_room(room, &[&(chunk_num as u16).to_le_bytes()[..], &list.bytes()].concat())
+}
+
+/// Every chunk of every list, with room one short, exact and one more; and the numbers that no chunk has. Of the long lists
+/// the first and the last chunks.
+pub fn to_split(each: Each) {
+    let mut cut = |list: List, places: &dyn Fn(usize) -> Vec<usize>| {
+        let chunks = chunker::split(list.request_id, list.header, list.body, list.max_sysex).unwrap_or_default();
+        for k in places(chunks.len()) {
+            let len = chunks[k - 1].len();
+            (len - 1..=len + 1).for_each(|room| each(&split_case(room, k, list)));
+        }
+        for k in [0, chunks.len() + 1, 65_535] {
+            [0, 4_096].iter().for_each(|room| each(&split_case(*room, k, list)));
+        }
+    };
+    lists(&mut |list| cut(list, &|count| (1..=count).collect()));
+    long_lists(&mut |list| cut(list, &|count| [1, 2, count - 1, count].into_iter().filter(|_| count > 0).collect()));
+}
+
+/// A limit: at a boundary, any between them, or any at all.
+pub fn any_limit(rng: &mut Rng) -> u32 {
+    match rng.below(16) {
+        0 => rng.draw() as u32,
+        1..=5 => 100 + rng.below(4_100) as u32,
+        _ => rng.pick(&LIMITS),
+    }
+}
+
+pub fn random_header_length(rng: &mut Rng) -> Vec<u8> {
+    let limit = any_limit(rng);
+    let later = later_chunk_property_capacity(limit);
+    let header_len = if rng.once_in(2) { rng.around(later) } else { rng.below(later + 100) };
+    [&limit.to_le_bytes()[..], &(header_len as u64).to_le_bytes()].concat()
+}
+
+/// A list's input: a header around what the first chunk holds or shorter, and a body around a multiple of what the chunks
+/// carry, or any.
+pub fn random_to_count(rng: &mut Rng) -> Vec<u8> {
+    let max_sysex = if rng.once_in(2) { 128 } else { any_limit(rng) };
+    let later = later_chunk_property_capacity(max_sysex);
+    let header_len = if rng.once_in(8) { rng.around(later) } else { rng.below(60) };
+    let first = first_chunk_property_capacity(max_sysex, header_len).unwrap_or(0);
+    let chunks = if rng.once_in(64) { rng.below(40) } else { rng.below(4) };
+    let body_len = if rng.once_in(2) { rng.around(first + chunks * later) } else { rng.below(120) };
+    let (header, body) = (random_header(rng, header_len), rng.bytes(body_len));
+    List { request_id: random_request_id(rng), max_sysex, header: &header, body: &body }.bytes()
+}
+
+/// A chunk of a list: mostly one of the first ones or the last; with room mostly around what it takes.
+pub fn random_to_split(rng: &mut Rng) -> Vec<u8> {
+    let input = random_to_count(rng);
+    let List { request_id, max_sysex, header, body } = List::read(&input);
+    let chunks = chunker::split(request_id, header, body, max_sysex).unwrap_or_default();
+    let chunk_num = if rng.once_in(8) { random_number(rng).into() } else { rng.below(chunks.len() + 2) };
+    let need = chunk_num.checked_sub(1).and_then(|k| chunks.get(k)).map_or(9, Vec::len);
+    with_random_room(rng, need, [&(chunk_num as u16).to_le_bytes()[..], &input].concat())
+}
+
+pub fn random_limit(rng: &mut Rng) -> Vec<u8> {
+    any_limit(rng).to_le_bytes().to_vec()
+}
+
+pub fn clamp_max_sysex(input: &[u8], _: Vec<u8>) -> Outcome {
+    Outcome::granted([chunker::clamp_max_sysex(u32_at(input, 0))])
+}
+
+pub fn pe_payload_budget(input: &[u8], _: Vec<u8>) -> Outcome {
+    Outcome::granted([chunker::pe_payload_budget(u32_at(input, 0)) as u64])
+}
+
+pub fn later_capacity(input: &[u8], _: Vec<u8>) -> Outcome {
+    Outcome::granted([later_chunk_property_capacity(u32_at(input, 0)) as u64])
+}
+
+/// No case has a length from 2^64 - 9 on: there the original's sum overflows.
+pub fn first_capacity(input: &[u8], _: Vec<u8>) -> Outcome {
+    let capacity = first_chunk_property_capacity(u32_at(input, 0), u64_at(input, 4) as usize);
+    Outcome::of(capacity.map(|n| vec![n as u64]).map_err(Refusal::from))
+}
+
+pub fn chunk_count(input: &[u8], _: Vec<u8>) -> Outcome {
+    Outcome::of(split(List::read(input)).map(|chunks| vec![chunks.len() as u64]))
+}
+
+fn split(list: List) -> Result<Vec<Vec<u8>>, Refusal> {
+    chunker::split(list.request_id, list.header, list.body, list.max_sysex).map_err(Refusal::from)
+}
+
+/// The original returns all chunks where the port writes one, so the last two questions are document 01's: "Is k from 1 to the
+/// count? 29. Buffer long enough? 3."
+pub fn split_chunk(input: &[u8], mut out: Vec<u8>) -> Outcome {
+    let out_of_range = Refusal { number: 29, value: 0 };
+    let reply = split(List::read(from(input, 4))).and_then(|chunks| {
+        let place = usize::from(u16_at(input, 2)).checked_sub(1).ok_or(out_of_range)?;
+        copy_in(chunks.get(place).ok_or(out_of_range)?, &mut out)
+    });
+    Outcome { reply, out }
+}
