@@ -29,9 +29,12 @@ headerOut h = record { «device_id» = h .device; «sub_id2» = h .kind; version
 abbrev pub noHeader : Header
 noHeader = record { device = 0; kind = 0; version = 0; source = 0; dest = 0 }
 
+abbrev pub headerAnswer : ℕ → ℕ → HeaderFields → HeaderAnswer
+headerAnswer number value h = record { refusal = number; value = value; header = h }
+
 abbrev pub headerAnswerOf : Reply Header → HeaderAnswer
-headerAnswerOf (granted h) = record { refusal = 0; value = 0; header = headerOut h }
-headerAnswerOf (refused number value) = record { refusal = number; value = value; header = headerOut noHeader }
+headerAnswerOf (granted h) = headerAnswer 0 0 (headerOut h)
+headerAnswerOf (refused number value) = headerAnswer number value (headerOut noHeader)
 
 abbrev pub capsIn : CapsFields → Caps
 capsIn c = record { header = headerIn (c .header); requests = c .«simultaneous_requests»; major = c .«pe_major»; minor = c .«pe_minor» }
@@ -42,13 +45,17 @@ capsOut c = record { header = headerOut (c .header); «simultaneous_requests» =
 abbrev pub noCaps : Caps
 noCaps = record { header = noHeader; requests = 0; major = 0; minor = 0 }
 
+abbrev pub capsAnswer : ℕ → ℕ → CapsFields → CapsAnswer
+capsAnswer number value c = record { refusal = number; value = value; caps = c }
+
 abbrev pub capsAnswerOf : Reply Caps → CapsAnswer
-capsAnswerOf (granted c) = record { refusal = 0; value = 0; caps = capsOut c }
-capsAnswerOf (refused number value) = record { refusal = number; value = value; caps = capsOut noCaps }
+capsAnswerOf (granted c) = capsAnswer 0 0 (capsOut c)
+capsAnswerOf (refused number value) = capsAnswer number value (capsOut noCaps)
 
 abbrev pub messageAnswerOf : Reply Message → MessageAnswer
 messageAnswerOf (granted m) = record { refusal = 0; value = 0; header = headerOut (m .header); «payload_at» = m .payload-at; «payload_len» = m .payload-len }
-messageAnswerOf (refused number value) = record { refusal = number; value = value; header = headerOut noHeader; «payload_at» = 0; «payload_len» = 0 }
+messageAnswerOf (refused number value) =
+    record { refusal = number; value = value; header = headerOut noHeader; «payload_at» = 0; «payload_len» = 0 }
 
 abbrev pub chunkOut : ℕ → ℕ → Fields → ChunkAnswer
 chunkOut number value f = record {

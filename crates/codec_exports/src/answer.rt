@@ -12,13 +12,14 @@ use midici_core::muid::Generated;
 use midici_core::muid::Muid;
 use midici_core::muid::MuidRead;
 use midici_core::pe_caps::CapsRead;
+use midici_core::pe_caps::PeCapabilities;
 use midici_core::pe_msg::MessageRead;
 use midici_core::spec::KindFound;
 use pe_chunker::Capacity;
 use pe_frame::frame::ChunkRead;
 use pe_wire::wire::U14;
 ghost use mathlib.Core.Path.{_≡_};
-ghost use Rattle.midici_core.specs.Caps.{capsTold};
+ghost use Rattle.midici_core.specs.Caps.{capsOf, capsTold};
 ghost use Rattle.midici_core.specs.Errors.{ciNumber, ciValue};
 ghost use Rattle.midici_core.specs.Header.{headerOf, headerTold, ciEncodedTold};
 ghost use Rattle.midici_core.specs.Kinds.{kindTold};
@@ -29,7 +30,8 @@ ghost use Rattle.pe_wire.specs.Wire.{u14Told};
 ghost use Rattle.pe_frame.specs.Chunk.{chunkTold};
 ghost use Rattle.pe_chunker.specs.Cut.{capacityTold};
 ghost use Rattle.hub.specs.Answers.{answerOf};
-ghost use Rattle.codec_exports.specs.Answers.{headerIn, headerOut, headerAnswerOf, capsAnswerOf, messageAnswerOf, chunkAnswerOf, kindAnswerOf, generatedAnswerOf};
+ghost use Rattle.codec_exports.specs.Answers.{headerIn, headerOut, headerAnswer, headerAnswerOf, capsOut, capsAnswer, capsAnswerOf};
+ghost use Rattle.codec_exports.specs.Answers.{messageAnswerOf, chunkAnswerOf, kindAnswerOf, generatedAnswerOf};
 
 #[repr(C)]
 pub struct HeaderFields {
@@ -204,20 +206,43 @@ fn header_out(h: CiHeader) -> HeaderFields
     }
 }
 
+fn header_answer(refusal: u8, value: u8, header: HeaderFields) -> HeaderAnswer
+    ensures { λ r. ⌜ r ≡ headerAnswer refusal value header ⌝ }
+{
+    HeaderAnswer {
+        refusal,
+        value,
+        header,
+    }
+}
+
 pub(crate) fn header_read(a: HeaderRead) -> HeaderAnswer
     ensures { λ r. ⌜ r ≡ headerAnswerOf (headerTold a) ⌝ }
 {
     match a {
-        HeaderRead::Value(h) => HeaderAnswer {
-            refusal: 0,
-            value: 0,
-            header: header_out(h),
-        },
-        HeaderRead::Refused(e) => HeaderAnswer {
-            refusal: e.number(),
-            value: e.value(),
-            header: NO_HEADER,
-        },
+        HeaderRead::Value(h) => header_answer(0, 0, header_out(h)),
+        HeaderRead::Refused(e) => header_answer(e.number(), e.value(), NO_HEADER),
+    }
+}
+
+fn caps_out(c: PeCapabilities) -> CapsFields
+    ensures { λ r. ⌜ r ≡ capsOut (capsOf c) ⌝ }
+{
+    CapsFields {
+        header: header_out(c.header),
+        simultaneous_requests: c.simultaneous_requests,
+        pe_major: c.pe_major,
+        pe_minor: c.pe_minor,
+    }
+}
+
+fn caps_answer(refusal: u8, value: u8, caps: CapsFields) -> CapsAnswer
+    ensures { λ r. ⌜ r ≡ capsAnswer refusal value caps ⌝ }
+{
+    CapsAnswer {
+        refusal,
+        value,
+        caps,
     }
 }
 
@@ -225,21 +250,8 @@ pub(crate) fn caps_read(a: CapsRead) -> CapsAnswer
     ensures { λ r. ⌜ r ≡ capsAnswerOf (capsTold a) ⌝ }
 {
     match a {
-        CapsRead::Value(c) => CapsAnswer {
-            refusal: 0,
-            value: 0,
-            caps: CapsFields {
-                header: header_out(c.header),
-                simultaneous_requests: c.simultaneous_requests,
-                pe_major: c.pe_major,
-                pe_minor: c.pe_minor,
-            },
-        },
-        CapsRead::Refused(e) => CapsAnswer {
-            refusal: e.number(),
-            value: e.value(),
-            caps: NO_CAPS,
-        },
+        CapsRead::Value(c) => caps_answer(0, 0, caps_out(c)),
+        CapsRead::Refused(e) => caps_answer(e.number(), e.value(), NO_CAPS),
     }
 }
 
