@@ -35,11 +35,10 @@ examples:
 compare:
 	@.ci/values "the comparison" SEED CASES RUNS
 	@oracle/at-hand
-	@echo "Comparing with the original: building some five minutes where nothing is built, then about a minute for a million cases and 20,000 runs."
 	@.ci/alone oracle/run compare $(SEED) $(CASES) $(RUNS)
 
 bench:
-	@oracle/at-hand
+	@oracle/at-hand Cannot-run "the benchmarks"
 	@.ci/alone bench/run
 
 vectors:
@@ -63,6 +62,7 @@ uninstall:
 
 clean:
 	@.ci/alone rm -rf target
+	@echo "Removed: target/"
 
 sizes:
 	@c/at-hand Cannot-run "the sizes"
@@ -83,13 +83,13 @@ test-c:
 
 tested-c: target/c/readme target/c/exports target/c/week
 	@c/test/header
-	@c/test/readme
 	@target/c/exports
 	@target/c/week >target/c/week.log || { cat target/c/week.log; exit 1; }
 	@echo "The demo ends as it should."
 	@if c/test/sanitizers; then $(MAKE) -s sanitized-c; fi
 	@c/sizes >target/c/sizes.log || { cat target/c/sizes.log; exit 1; }
 	@echo "No call takes more stack than the header says, and memset is all that has to be supplied."
+	@c/test/readme
 	@c/test/commands
 
 sanitized-c: target/c/exports_sanitized target/c/week_sanitized

@@ -5,7 +5,7 @@
  *
  * Memory. The library allocates nothing, keeps no pointer after a call and has no state of its own. All memory is yours
  * and is lent for the time of a call. It has no I/O, takes no locks and never ends the program. The one function that it
- * calls is memset. No call takes more than MIDICI_PE_STACK_BYTES of stack.
+ * calls is memset. No call takes more than MIDICI_PE_STACK_BYTES of stack (that is measured, not proved).
  *
  * Slices. A slice is a pointer and a length; the length counts elements, not bytes. A pointer may be NULL where the length
  * is 0. A call writes within the slices that are not const, and nowhere else.
@@ -15,11 +15,12 @@
  * Unless a call says otherwise, a refused call leaves all lent memory as it was. midici_pe_request_id has no refusal.
  * Compare fields, not the bytes of the structs: there is padding between fields.
  *
- * Time. Every call returns, whatever its arguments. It takes time by the bytes and the records that it handles, with one
- * exception: a whole list whose chunk numbers have a gap above the count is joined in time by the square of its chunks,
- * some two million steps for 2,048 of them.
+ * Time. Every call returns, whatever its arguments. Its time grows with the bytes that it is given and the chunks that the
+ * list holds, with one exception: a list whose chunk numbers have a gap above its count is joined, once, in time by the
+ * square of its chunks, some two million steps for 2,048 of them.
  *
- * Trust. What is said here is proved of calls that keep four rules, and a call cannot see whether they are kept:
+ * Trust. What is said here of answers and memory is proved of calls that keep four rules, and a call cannot see whether
+ * they are kept:
  *   - a slice with a length above 0 points to that many elements, aligned as C aligns their type;
  *   - a slice that is not const does not overlap another slice of the same call;
  *   - while a call runs, nobody else writes what it is lent, and nobody else reads what it may write: calls on one table
@@ -168,9 +169,9 @@ midici_pe_answer midici_pe_encode_message(uint8_t sub_id2, uint32_t source, uint
  *
  * A call that names another shape is not one on this table, and what it leaves may be no table of either shape. So it is
  * with memory that was never given to midici_pe_new, or that somebody else wrote. Feeding asks whether the one list that it
- * reaches can be what calls leave, and answers 31 where it cannot (or 7 or 6 before, where every place looks taken). It does
- * not see every such change, and the other calls take what is stored as it is; no call goes beyond the lent slices for it.
- * What helps is midici_pe_new, and nothing else. */
+ * reaches can be what calls leave, and answers 31 where it cannot (or 7 or 6 before, where every place looks taken). It
+ * does not see every such change, and the other calls take what is stored as it is; no call goes beyond the lent slices for
+ * it. What helps is midici_pe_new, and nothing else. */
 #define MIDICI_PE_NUMBERS_LEN(max_peers) ((size_t)1 + (size_t)38 * (max_peers))                         /* uint64_t */
 #define MIDICI_PE_INDEX_LEN(max_peers, fragment_records) ((size_t)4 * (max_peers) * (fragment_records)) /* uint64_t */
 #define MIDICI_PE_HEADERS_LEN(max_peers, header_bytes) ((size_t)4 * (max_peers) * (header_bytes))       /* uint8_t */
@@ -207,8 +208,8 @@ midici_pe_answer midici_pe_new(size_t max_peers, size_t header_bytes, size_t tx_
  *   8 chunk number 0, and the list is closed; 8 a chunk that is there already;
  *   5 no record for another chunk; 5 a body longer than tx_bytes, and the list is closed.
  * The list has then been opened, if it was not open, its time is now_ms, and it may have taken the chunk's header and
- * count, but not its bytes. But for the two cases named it stays open and keeps what it holds: so also where a chunk with number 0
- * has another count, or one that makes the body too long is there already or finds no record. */
+ * count, but not its bytes. But for the two cases named it stays open and keeps what it holds: so also where a chunk with
+ * number 0 has another count, or one that makes the body too long is there already or finds no record. */
 midici_pe_fed midici_pe_feed(size_t max_peers, size_t header_bytes, size_t tx_bytes, size_t fragment_records,
                              uint64_t *numbers, size_t numbers_len, uint64_t *index, size_t index_len, uint8_t *headers,
                              size_t headers_len, uint8_t *arenas, size_t arenas_len, uint32_t peer,
