@@ -20,7 +20,7 @@ use Rattle.pe_chunker.proofs.CutLaws.{budget-between}
 use Rattle.pe_chunker.proofs.Theorems.{property-length, budget-is-room, chunk-reads-back}
 use Rattle.pe_mcoded7.specs.Mcoded7.{readMcoded7, askGroups, askGroup, groups, decoded, groupData, restored}
 use Rattle.pe_controller.specs.Controller.{stepped}
-use Rattle.examples.specs.Examples.{readChunk, carriedFrom, carried, Holds, Hold, examples}
+use Rattle.examples.specs.Examples.{readChunk, carriedFrom, carried, Holds, AllHold, examples}
 
 -- a cut of lengths that are known, whose header fits
 record Sized (id : ℕ) (header body : List ℕ) (limit h b m count : ℕ) : Type 0 where
@@ -40,7 +40,8 @@ module _ (id : ℕ) (header body : List ℕ) (limit h b m count : ℕ) (z : Size
   count-granted : cutCount id header body limit ≡ granted count
   unfolding cutCount
   count-granted =
-      cut-asked id header body limit _ (record { low = z .low; seven = z .seven; fits = rw (z .header-is, z .later) (z .fits); few = rw counted (z .few) }) ∙ rw counted
+      let fits : length header ≤ laterCapacity limit = rw (z .header-is, z .later) (z .fits) in
+      cut-asked id header body limit _ (record { low = z .low; seven = z .seven; fits = fits; few = rw counted (z .few) }) ∙ rw counted
 
   -- the property of chunk k, read back, and what follows it
   next-carried : (n k size : ℕ) (lengths : List ℕ) → 1 ≤ k → k ≤ count → min (k * m - h) b - min ((k - 1) * m - h) b ≡ size
@@ -98,11 +99,11 @@ too-wide id header body i s eh eb =
     rw (cut-wide id header body 128 (granted count) i s (omega arith) (omega arith))
 
 -- All marked examples hold.
-pub examples-hold : Hold examples
-unfolding Holds Hold examples readChunk readFields clamped budget laterCapacity firstCapacity askFirst readU14 writeU14 readMuid readMcoded7 askGroups askGroup groups decoded groupData restored pieces joined isSevenBit numberOf bytesOf stepped
+pub examples-hold : AllHold examples
+unfolding Holds AllHold examples readChunk readFields clamped budget laterCapacity firstCapacity askFirst readU14 writeU14 readMuid readMcoded7 askGroups askGroup groups decoded groupData restored pieces joined isSevenBit numberOf bytesOf stepped
 examples-hold =
-    let from-16 : Hold (drop 16 examples) = (refl, (refl, (refl, tt))) in
-    let from-11 : Hold (drop 11 examples) = (refl, (refl, (none-in-the-first, (too-wide, (five-chunks, from-16))))) in
-    let from-7 : Hold (drop 7 examples) = (refl, (refl, (refl, (refl, from-11)))) in
-    let from-3 : Hold (drop 3 examples) = (refl, (refl, (refl, (refl, from-7)))) in
+    let from-16 : AllHold (drop 16 examples) = (refl, (refl, (refl, tt))) in
+    let from-11 : AllHold (drop 11 examples) = (refl, (refl, (none-in-the-first, (too-wide, (five-chunks, from-16))))) in
+    let from-7 : AllHold (drop 7 examples) = (refl, (refl, (refl, (refl, from-11)))) in
+    let from-3 : AllHold (drop 3 examples) = (refl, (refl, (refl, (refl, from-7)))) in
     (refl, (refl, (refl, from-3)))

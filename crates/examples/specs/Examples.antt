@@ -45,7 +45,7 @@ carried id header body limit =
     andThen (cutCount id header body limit) (λ count.
     carriedFrom id header body limit count 1)
 
--- What an example says. A cut has any request id, any header of bytes up to 7F and any body, of the lengths that are named.
+-- What an example says. A cut has any request id up to 7F, any header of bytes up to 7F and any body, of the lengths named.
 unfoldable pub Holds : Example → Type 0
 Holds (field-reads s answer) = readU14 s ≡ answer
 Holds (field-writes v answer) = writeU14 v 2 ≡ answer
@@ -60,9 +60,9 @@ Holds (mcoded7-reads s answer) = readMcoded7 s 8 ≡ answer
 Holds (counter-steps counter answer) = stepped counter ≡ answer
 
 -- All of them hold.
-unfoldable pub Hold : List Example → Type 0
-Hold [] = Unit {0}
-Hold (e ∷ es) = Holds e × Hold es
+unfoldable pub AllHold : List Example → Type 0
+AllHold [] = Unit {0}
+AllHold (e ∷ es) = Holds e × AllHold es
 
 unfoldable pub examples : List Example
 examples =

@@ -1,9 +1,9 @@
 // A reassembler for one peer, with rooms of 16 bytes and four records: what its calls answer.
-use crate::byte;
-use crate::end;
-use crate::number;
-use crate::refusal;
-use libc::STDOUT_FILENO;
+use crate::print::end;
+use crate::print::number;
+use crate::print::part;
+use crate::print::refused;
+use crate::print::text;
 use pe_reassembler::calls::Count;
 use pe_reassembler::calls::Made;
 use pe_reassembler::shape::Shape;
@@ -19,14 +19,14 @@ fn shape() -> Shape {
 }
 
 fn makes(numbers: &mut [u64], index: &mut [u64], headers: &[u8], arenas: &[u8]) {
-    io::write_all(STDOUT_FILENO, b"a new reassembler:");
+    text(b"a new reassembler:");
     match pe_reassembler::calls::new(shape(), numbers, index, headers, arenas) {
         Made::Done => end(),
-        Made::Refused(e) => refusal(e.number()),
+        Made::Refused(e) => refused(e.number()),
     }
 }
 
-// Waiting, or the two lengths and the first three bytes of the body.
+// At 1,000: waiting, or header and body.
 fn feeds(
     what: &[u8],
     numbers: &mut [u64],
@@ -34,11 +34,10 @@ fn feeds(
     headers: &mut [u8],
     arenas: &mut [u8],
     raw_chunk: &[u8],
-    now_ms: u64,
 ) {
-    io::write_all(STDOUT_FILENO, what);
+    text(what);
     let mut out_header = [0u8; 16];
-    let mut body = [0u8; 16];
+    let mut out_body = [0u8; 16];
     let a = pe_reassembler::feed::feed(
         shape(),
         numbers,
@@ -47,86 +46,76 @@ fn feeds(
         arenas,
         9,
         raw_chunk,
-        now_ms,
+        1000,
         &mut out_header,
-        &mut body,
+        &mut out_body,
     );
     match a {
         Fed::Waiting => {
-            io::write_all(STDOUT_FILENO, b" waiting\n");
+            text(b" waiting\n");
         }
         Fed::Whole(header_len, body_len) => {
-            io::write_all(STDOUT_FILENO, b" whole");
-            number(header_len as u64);
-            number(body_len as u64);
-            io::write_all(STDOUT_FILENO, b":");
-            byte(body[0]);
-            byte(body[1]);
-            byte(body[2]);
+            text(b" whole, header");
+            part(&out_header, 0, header_len);
+            text(b", body");
+            part(&out_body, 0, body_len);
             end();
         }
-        Fed::Refused(e) => refusal(e.number()),
+        Fed::Refused(e) => refused(e.number()),
     }
 }
 
-// How many slots timed out.
+fn timeout(rows: u64, peer: u64, request_id: u64) {
+    if rows > 0 {
+        text(b", peer");
+        number(peer);
+        text(b", id");
+        number(request_id);
+    }
+}
+
+// How many slots timed out, and the peer and request id of the first.
 fn polls(what: &[u8], numbers: &mut [u64], now_ms: u64) {
-    io::write_all(STDOUT_FILENO, what);
+    text(what);
     let mut peers = [0u64; 4];
     let mut request_ids = [0u64; 4];
     match pe_reassembler::poll::poll(shape(), numbers, now_ms, &mut peers, &mut request_ids) {
         Count::Number(n) => {
             number(n);
+            timeout(n, peers[0], request_ids[0]);
             end();
         }
-        Count::Refused(e) => refusal(e.number()),
+        Count::Refused(e) => refused(e.number()),
     }
 }
 
-// "Frames 1 of 2, 5 of 2, 2 of 2: body is 1, 2, 5." "Last time 1,000: poll at 3,999 nothing, at 4,000 a timeout, at 500 nothing."
-pub fn examples() {
+// "Last time 1,000: poll at 3,999 nothing, at 4,000 a timeout, at 500 nothing."
+fn timeouts(numbers: &mut [u64], index: &mut [u64], headers: &mut [u8], arenas: &mut [u8]) {
+    let second = [5u8, 0, 0, 2, 0, 2, 0, 1, 0, 2];
+    feeds(b"chunk 2 of 2:", numbers, index, headers, arenas, &second);
+    polls(b"poll at 3999:", numbers, 3999);
+    polls(b"poll at 4000:", numbers, 4000);
+    feeds(b"chunk 2 of 2:", numbers, index, headers, arenas, &second);
+    polls(b"poll at 500:", numbers, 500);
+}
+
+// "Frames 1 of 2, 5 of 2, 2 of 2: body is 1, 2, 5."
+fn joins(numbers: &mut [u64], index: &mut [u64], headers: &mut [u8], arenas: &mut [u8]) {
+    let first = [5u8, 1, 0, 0x7B, 2, 0, 1, 0, 1, 0, 1];
+    let fifth = [5u8, 0, 0, 2, 0, 5, 0, 1, 0, 5];
+    let second = [5u8, 0, 0, 2, 0, 2, 0, 1, 0, 2];
+    feeds(b"chunk 1 of 2:", numbers, index, headers, arenas, &first);
+    feeds(b"chunk 5 of 2:", numbers, index, headers, arenas, &fifth);
+    feeds(b"chunk 2 of 2:", numbers, index, headers, arenas, &second);
+}
+
+pub(crate) fn examples() {
     let mut numbers = [0u64; 39];
     let mut index = [0u64; 16];
     let mut headers = [0u8; 64];
     let mut arenas = [0u8; 64];
     makes(&mut numbers, &mut index, &headers, &arenas);
-    feeds(
-        b"chunk 1 of 2:",
-        &mut numbers,
-        &mut index,
-        &mut headers,
-        &mut arenas,
-        &[5, 1, 0, 0x7B, 2, 0, 1, 0, 1, 0, 1],
-        1000,
-    );
-    feeds(
-        b"chunk 5 of 2:",
-        &mut numbers,
-        &mut index,
-        &mut headers,
-        &mut arenas,
-        &[5, 0, 0, 2, 0, 5, 0, 1, 0, 5],
-        1000,
-    );
-    feeds(
-        b"chunk 2 of 2:",
-        &mut numbers,
-        &mut index,
-        &mut headers,
-        &mut arenas,
-        &[5, 0, 0, 2, 0, 2, 0, 1, 0, 2],
-        1000,
-    );
-    feeds(
-        b"chunk 2 of 2 at 1000:",
-        &mut numbers,
-        &mut index,
-        &mut headers,
-        &mut arenas,
-        &[5, 0, 0, 2, 0, 2, 0, 1, 0, 2],
-        1000,
-    );
-    polls(b"poll at 500:", &mut numbers, 500);
-    polls(b"poll at 3999:", &mut numbers, 3999);
-    polls(b"poll at 4000:", &mut numbers, 4000);
+    timeouts(&mut numbers, &mut index, &mut headers, &mut arenas);
+    makes(&mut numbers, &mut index, &headers, &arenas);
+    joins(&mut numbers, &mut index, &mut headers, &mut arenas);
 }

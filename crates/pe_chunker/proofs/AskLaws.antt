@@ -1,14 +1,14 @@
 -- The questions of a cut: their answers by the code's tests, and what a grant tells.
 -- Assumes nothing.
 use Prim.Native.Nat.{ℕ, _<_, _≤_}
-use mathlib.Core.Bool.{Bool, true, false}
+use mathlib.Core.Bool.{true, false}
 use mathlib.Core.List.{List}
 use mathlib.Core.Path.{_≡_, refl, _∙_}
 use native.Mathlib.Omega.{arith}
 use borrow.Author.Tests.{le-leb, lt-leb, leb-true}
 use lib.Dec.{leb}
 use lib.ListN.{length}
-use Rattle.seven_bit.specs.Reply.{Reply, granted, refused, _else_then_, andThen}
+use Rattle.seven_bit.specs.Reply.{Reply, granted, refused, andThen}
 use Rattle.seven_bit.specs.SevenBit.{isSevenBit}
 use Rattle.seven_bit.proofs.ReplyLaws.{asked, first-granted as granted-first, then-else}
 use Rattle.pe_chunker.specs.Cut.{laterCapacity, bodyPieces, askFirst, askCut}

@@ -2,18 +2,13 @@
 -- Assumes nothing.
 use Prim.Native.Nat.{ℕ, zero, suc, _+_, _-_, _*_, _/_, _%_, _^_, _<_, _≤_}
 use mathlib.Core.Bool.{true}
-use mathlib.Core.List.{List, [], _∷_, _++_, map, append-nil}
-use mathlib.Core.Logic.{⊎-elim}
+use mathlib.Core.List.{List, [], _∷_, _++_, map}
 use mathlib.Core.Path.{_≡_, refl, ap, _∙_}
 use native.Mathlib.Nat.{mul-mod-right}
 use native.Mathlib.Omega.{arith}
-use borrow.Author.Tests.{leb-true, leb-false}
-use lib.Dec.{leb}
-use lib.ListN.{length, getD, take, drop, length-map, drop-of-length-le}
-use lib.Seq.{take-all, take-at, drop-at}
+use lib.ListN.{length, getD, take, drop, length-map}
 use Rattle.seven_bit.specs.Reply.{Reply}
 use Rattle.seven_bit.specs.SevenBit.{isSevenBit}
-use Rattle.seven_bit.proofs.ReplyLaws.{both}
 use Rattle.seven_bit.proofs.SevenBitLaws.{seven-bit-cons, seven-bit-split}
 use Rattle.pe_mcoded7.specs.Mcoded7.{flags, groupBytes, restored, groupData, askGroup}
 use Rattle.pe_mcoded7.proofs.FlagLaws.{up-to-six, flags-up, flags-next, restored-next}
@@ -137,18 +132,3 @@ group-again (f ∷ ds) a l =
     let h = seven-bit-split f ds (a .low) in
     let n : 8 - length (f ∷ ds) ≡ 7 - length ds = omega arith in
     rw (flags-again f ds (h .0) (omega arith) (h .1) (rw n at (a .unspared)), lows-again f 6 ds (h .1))
-
--- a list in two parts, of which the first has k elements, or fewer where nothing follows
-pub take-front : (k : ℕ) (a b : List ℕ) → length a ≤ k → (length a < k → b ≡ []) → take k (a ++ b) ≡ a
-take-front k a b l h =
-    ⊎-elim
-    (λ t. take-at a b k (let g = leb-true k (length a) t in omega arith))
-    (λ f. rw (h (leb-false k (length a) f), append-nil) (take-all k a l))
-    (both (leb k (length a)))
-
-pub drop-front : (k : ℕ) (a b : List ℕ) → length a ≤ k → (length a < k → b ≡ []) → drop k (a ++ b) ≡ b
-drop-front k a b l h =
-    ⊎-elim
-    (λ t. drop-at a b k (let g = leb-true k (length a) t in omega arith))
-    (λ f. rw (h (leb-false k (length a) f), append-nil) (drop-of-length-le a l))
-    (both (leb k (length a)))

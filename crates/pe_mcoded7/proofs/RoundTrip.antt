@@ -2,44 +2,34 @@
 -- Assumes nothing.
 use Prim.Native.Nat.{ℕ, _+_, _-_, _/_, _<_, _≤_}
 use mathlib.Core.Bool.{true}
-use mathlib.Core.List.{List, [], append-nil}
+use mathlib.Core.List.{List, append-nil}
 use mathlib.Core.Path.{_≡_, refl}
 use native.Mathlib.Nat.{le-refl}
 use native.Mathlib.Omega.{arith}
 use borrow.Author.Tests.{le-leb}
 use lib.Dec.{leb}
-use lib.ListN.{length, take, drop, length-take, take-append-drop, drop-of-length-le}
+use lib.ListN.{length, take, drop, length-take, take-append-drop}
 use lib.Seq.{drop-length}
 use Rattle.seven_bit.specs.Reply.{Reply, granted, outcome, writing}
 use Rattle.seven_bit.specs.SevenBit.{isSevenBit}
 use Rattle.seven_bit.proofs.ReplyLaws.{asked, same-grant}
 use Rattle.pe_mcoded7.specs.Mcoded7.{groupBytes, encoded, writeMcoded7, groups, groupData, decoded, askGroups, readMcoded7}
-use Rattle.pe_mcoded7.proofs.TextLaws.{by-groups, encoded-none, encoded-next, groups-none, groups-next, decoded-none, decoded-next, length-group-bytes, length-group-data, length-encoded, length-decoded}
+use Rattle.pe_mcoded7.proofs.TextLaws.{by-groups, encoded-none, encoded-next, groups-none, groups-next, decoded-none, decoded-next, encoded-groups, decoded-groups, first-of, length-group-bytes, length-group-data, length-encoded, length-decoded}
 use Rattle.pe_mcoded7.proofs.AskLaws.{seven-bit-join, groups-told, write-granted}
-use Rattle.pe_mcoded7.proofs.GroupLaws.{Bytes, bytes-take, bytes-drop, bytes-join, group-low, group-allowed, group-back, group-bytes, group-again, take-front, drop-front}
+use Rattle.pe_mcoded7.proofs.GroupLaws.{Bytes, bytes-take, bytes-drop, bytes-join, group-low, group-allowed, group-back, group-bytes, group-again}
 
 -- the first seven bytes are a group
 seven : (xs : List ℕ) → 0 < length xs → (0 < length (take 7 xs)) × (length (take 7 xs) ≤ 7)
 seven xs h = omega (arith, length-take 7 xs)
 
 -- the first group of a text, and what follows it
-module _ (xs : List ℕ) (h : 0 < length xs) where
-  last-group : length (groupBytes (take 7 xs)) < 8 → encoded (drop 7 xs) ≡ []
-  last-group l =
-      let e : drop 7 xs ≡ [] = drop-of-length-le xs {i = 7} (omega (arith, length-group-bytes (take 7 xs), length-take 7 xs)) in
-      rw (e, encoded-none)
+text-parts : (xs : List ℕ) → 0 < length xs → (take 8 (encoded xs) ≡ groupBytes (take 7 xs)) × (drop 8 (encoded xs) ≡ encoded (drop 7 xs))
+text-parts xs h =
+    let n : length (groupBytes (take 7 xs)) ≡ 1 + length (take 7 xs) = length-group-bytes (take 7 xs) in
+    first-of 7 8 groupBytes encoded encoded-groups xs h (omega (arith, length-take 7 xs)) (λ l. omega (arith, length-take 7 xs))
 
-  within : length (groupBytes (take 7 xs)) ≤ 8
-  within = omega (arith, length-group-bytes (take 7 xs), length-take 7 xs)
-
-  text-first : take 8 (encoded xs) ≡ groupBytes (take 7 xs)
-  text-first = rw (encoded-next xs h) (take-front 8 (groupBytes (take 7 xs)) (encoded (drop 7 xs)) within last-group)
-
-  text-rest : drop 8 (encoded xs) ≡ encoded (drop 7 xs)
-  text-rest = rw (encoded-next xs h) (drop-front 8 (groupBytes (take 7 xs)) (encoded (drop 7 xs)) within last-group)
-
-  text-some : 0 < length (encoded xs)
-  text-some = omega (arith, length-encoded xs)
+text-some : (xs : List ℕ) → 0 < length xs → 0 < length (encoded xs)
+text-some xs h = omega (arith, length-encoded xs)
 
 -- A text has only bytes up to 7F.
 pub encoded-seven-bit : (xs : List ℕ) → Bytes xs → isSevenBit (encoded xs) ≡ true
@@ -57,7 +47,7 @@ decoded-encoded =
     by-groups 7 (λ (xs : List ℕ). Bytes xs → decoded (encoded xs) ≡ xs) (omega arith)
     (λ b. rw (encoded-none, decoded-none))
     (λ xs h ih b.
-    rw (decoded-next (encoded xs) (text-some xs h), text-first xs h, text-rest xs h, group-back (take 7 xs) (seven xs h .1) (bytes-take 7 xs b), ih (bytes-drop 7 xs b))
+    rw (decoded-next (encoded xs) (text-some xs h), text-parts xs h .0, text-parts xs h .1, group-back (take 7 xs) (seven xs h .1) (bytes-take 7 xs b), ih (bytes-drop 7 xs b))
     (take-append-drop 7 xs))
 
 -- A text passes every question that is put to its groups.
@@ -67,7 +57,7 @@ asked-encoded next =
     by-groups 7 (λ (xs : List ℕ). Bytes xs → askGroups (groups (encoded xs)) next ≡ next) (omega arith)
     (λ b. rw (encoded-none, groups-none))
     (λ xs h ih b.
-    rw (groups-next (encoded xs) (text-some xs h), text-first xs h, text-rest xs h, ih (bytes-drop 7 xs b))
+    rw (groups-next (encoded xs) (text-some xs h), text-parts xs h .0, text-parts xs h .1, ih (bytes-drop 7 xs b))
     (group-allowed (take 7 xs) next (seven xs h .0) (seven xs h .1) (bytes-take 7 xs b)))
 
 -- What was written reads back, for every list of bytes and any room that holds them.
@@ -85,20 +75,10 @@ pub written-then-read : (xs bs : List ℕ) (room room′ : ℕ) → Bytes xs →
 written-then-read xs bs room room′ b q h = rw (← written-is xs bs room q) (read-encoded xs room′ b h)
 
 -- the bytes of a text's first group, and those of what follows it
-module _ (s : List ℕ) (h : 0 < length s) where
-  last-bytes : length (groupData (take 8 s)) < 7 → decoded (drop 8 s) ≡ []
-  last-bytes l =
-      let e : drop 8 s ≡ [] = drop-of-length-le s {i = 8} (omega (arith, length-group-data (take 8 s), length-take 8 s)) in
-      rw (e, decoded-none)
-
-  within-bytes : length (groupData (take 8 s)) ≤ 7
-  within-bytes = omega (arith, length-group-data (take 8 s), length-take 8 s)
-
-  bytes-first : take 7 (decoded s) ≡ groupData (take 8 s)
-  bytes-first = rw (decoded-next s h) (take-front 7 (groupData (take 8 s)) (decoded (drop 8 s)) within-bytes last-bytes)
-
-  bytes-rest : drop 7 (decoded s) ≡ decoded (drop 8 s)
-  bytes-rest = rw (decoded-next s h) (drop-front 7 (groupData (take 8 s)) (decoded (drop 8 s)) within-bytes last-bytes)
+bytes-parts : (s : List ℕ) → 0 < length s → (take 7 (decoded s) ≡ groupData (take 8 s)) × (drop 7 (decoded s) ≡ decoded (drop 8 s))
+bytes-parts s h =
+    let n : length (groupData (take 8 s)) ≡ length (take 8 s) - 1 = length-group-data (take 8 s) in
+    first-of 8 7 groupData decoded decoded-groups s h (omega (arith, length-take 8 s)) (λ l. omega (arith, length-take 8 s))
 
 -- what a grant tells of the text: it is that of its bytes, these are bytes, and what follows the questions is granted
 told-all : {A : Type 0} (next : Reply A) (a : A) (s : List ℕ) → askGroups (groups s) next ≡ granted a
@@ -111,7 +91,7 @@ told-all next a =
     let t = groups-told s next a h q in
     let r = ih (t .1) in
     let p : 0 < length (decoded s) = omega (arith, length-decoded s, length-take 8 s, t .0 .long) in (
-      rw (encoded-next (decoded s) p, bytes-first s h, bytes-rest s h, group-again (take 8 s) (t .0) (omega (arith, length-take 8 s)), r .0)
+      rw (encoded-next (decoded s) p, bytes-parts s h .0, bytes-parts s h .1, group-again (take 8 s) (t .0) (omega (arith, length-take 8 s)), r .0)
           (take-append-drop 8 s),
       rw (decoded-next s h) (bytes-join (groupData (take 8 s)) (decoded (drop 8 s)) (group-bytes (take 8 s) (t .0)) (r .1)),
       r .2,

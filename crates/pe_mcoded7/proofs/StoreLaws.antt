@@ -9,10 +9,10 @@ use lib.ListN.{length, getD, take, drop, set, length-take, length-drop}
 use lib.Seq.{drop-cons, set-comm}
 use Rattle.seven_bit.specs.Parts.{put}
 use Rattle.seven_bit.specs.Reply.{Reply, granted, outcome, writing}
-use Rattle.seven_bit.proofs.PartLaws.{put-put, put-none, put-front}
+use Rattle.seven_bit.proofs.PartLaws.{length-put, put-put, put-none, put-front}
 use Rattle.pe_mcoded7.specs.Mcoded7.{flags, groupBytes, encoded, restored, groupData, decoded}
 use Rattle.pe_mcoded7.proofs.FlagLaws.{flags-next, restored-next}
-use Rattle.pe_mcoded7.proofs.TextLaws.{group-is, after-group, encoded-none, encoded-next, decoded-none, decoded-next, length-group-bytes, length-group-data}
+use Rattle.pe_mcoded7.proofs.TextLaws.{group-is, after-group, InGroups, encoded-groups, decoded-groups, length-group-bytes, length-group-data}
 
 -- a store before others goes first
 set-put : (xs ys : List ℕ) (a b y : ℕ) → a < b → set (put xs b ys) a y ≡ put (set xs a y) b ys
@@ -47,19 +47,35 @@ pub group-stored : (out g : List ℕ) (a b i : ℕ) → b ≡ suc a → i ≡ 0
 unfolding groupBytes
 group-stored out g a b i e z = rw z (put-before out (map (λ (d : ℕ). d % 128) g) a b (flags 6 g) e)
 
--- a group of a list, and the text of what follows it
-pub encode-next : (out after xs : List ℕ) (at i end : ℕ) → i < length xs → end ≡ i + min 7 (length xs - i)
-    → after ≡ put out at (groupBytes (take (end - i) (drop i xs)))
-    → put after (at + (1 + (end - i))) (encoded (drop end xs)) ≡ put out at (encoded (drop i xs))
-encode-next out after xs at i end h e q =
+-- what is made of a group is stored, and of what follows it is left to store
+group-next : (k : ℕ) (one whole : List ℕ → List ℕ) (w : InGroups k one whole) (out₀ out after xs : List ℕ) (at i end size : ℕ) → i < length xs
+    → end ≡ i + min k (length xs - i) → length (one (take k (drop i xs))) ≡ size → put out at (whole (drop i xs)) ≡ put out₀ 0 (whole xs)
+    → length out ≡ length out₀ → after ≡ put out at (one (take (end - i) (drop i xs)))
+    → (put after (at + size) (whole (drop end xs)) ≡ put out₀ 0 (whole xs)) × (length after ≡ length out₀)
+group-next k one whole w out₀ out after xs at i end size h e n r l q =
     let p : 0 < length (drop i xs) = omega (arith, length-drop i xs) in
-    let n : at + (1 + (end - i)) ≡ at + length (groupBytes (take 7 (drop i xs))) =
-    omega (arith, length-group-bytes (take 7 (drop i xs)), length-take 7 (drop i xs), length-drop i xs) in
-    rw (q, group-is 7 i end xs e, after-group 7 i end xs e, encoded-next (drop i xs) p)
-    (put-put out at (groupBytes (take 7 (drop i xs))) (encoded (drop 7 (drop i xs))) _ n)
+    let s : put after (at + size) (whole (drop end xs)) ≡ put out at (whole (drop i xs)) =
+    rw (q, group-is k i end xs e, after-group k i end xs e, w .next (drop i xs) p)
+    (put-put out at (one (take k (drop i xs))) (whole (drop k (drop i xs))) (at + size) (ap (λ (m : ℕ). at + m) (sym n))) in
+    (s ∙ r, ap length q ∙ length-put out at _ ∙ l)
 
-pub encode-end : (out xs : List ℕ) (at : ℕ) → xs ≡ [] → put out at (encoded xs) ≡ out
-encode-end out xs at e = rw (e, encoded-none) (put-none out at)
+pub encode-next : (out₀ out after xs : List ℕ) (at i end : ℕ) → i < length xs → end ≡ i + min 7 (length xs - i)
+    → put out at (encoded (drop i xs)) ≡ put out₀ 0 (encoded xs) → length out ≡ length out₀ → after ≡ put out at (groupBytes (take (end - i) (drop i xs)))
+    → (put after (at + (1 + (end - i))) (encoded (drop end xs)) ≡ put out₀ 0 (encoded xs)) × (length after ≡ length out₀)
+encode-next out₀ out after xs at i end h e =
+    group-next 7 groupBytes encoded encoded-groups out₀ out after xs at i end (1 + (end - i)) h e
+    (omega (arith, length-group-bytes (take 7 (drop i xs)), length-take 7 (drop i xs), length-drop i xs))
+
+pub decode-next : (out₀ out after s : List ℕ) (at i end : ℕ) → i < length s → end ≡ i + min 8 (length s - i)
+    → put out at (decoded (drop i s)) ≡ put out₀ 0 (decoded s) → length out ≡ length out₀ → after ≡ put out at (groupData (take (end - i) (drop i s)))
+    → (put after (at + (end - i - 1)) (decoded (drop end s)) ≡ put out₀ 0 (decoded s)) × (length after ≡ length out₀)
+decode-next out₀ out after s at i end h e =
+    group-next 8 groupData decoded decoded-groups out₀ out after s at i end (end - i - 1) h e
+    (omega (arith, length-group-data (take 8 (drop i s)), length-take 8 (drop i s), length-drop i s))
+
+-- nothing is left to store
+pub group-none : (k : ℕ) (one whole : List ℕ → List ℕ) (w : InGroups k one whole) (out xs : List ℕ) (at : ℕ) → xs ≡ [] → put out at (whole xs) ≡ out
+group-none k one whole w out xs at e = rw (e, w .none) (put-none out at)
 
 -- a byte of a group, and those after it with the flags moved up
 pub restore-next : (out g : List ℕ) (a f i : ℕ) → f ≤ 127 → 1 ≤ i → i < length g → length g ≤ 8
@@ -77,20 +93,6 @@ restore-start (f ∷ ds) h = refl
 pub restore-end : (out ds : List ℕ) (a f : ℕ) → ds ≡ [] → put out a (restored f 6 ds) ≡ out
 unfolding restored
 restore-end out ds a f e = rw e (put-none out a)
-
--- a group of a text, and the bytes of what follows it
-pub decode-next : (out after s : List ℕ) (at i end : ℕ) → i < length s → end ≡ i + min 8 (length s - i)
-    → after ≡ put out at (groupData (take (end - i) (drop i s)))
-    → put after (at + (end - i - 1)) (decoded (drop end s)) ≡ put out at (decoded (drop i s))
-decode-next out after s at i end h e q =
-    let p : 0 < length (drop i s) = omega (arith, length-drop i s) in
-    let n : at + (end - i - 1) ≡ at + length (groupData (take 8 (drop i s))) =
-    omega (arith, length-group-data (take 8 (drop i s)), length-take 8 (drop i s), length-drop i s) in
-    rw (q, group-is 8 i end s e, after-group 8 i end s e, decoded-next (drop i s) p)
-    (put-put out at (groupData (take 8 (drop i s))) (decoded (drop 8 (drop i s))) _ n)
-
-pub decode-end : (out s : List ℕ) (at : ℕ) → s ≡ [] → put out at (decoded s) ≡ out
-decode-end out s at e = rw (e, decoded-none) (put-none out at)
 
 -- what was put at the front is what a writer leaves
 pub put-written : (r : Reply (List ℕ)) (bs out after : List ℕ) (n : ℕ) → r ≡ granted bs → length bs ≡ n → n ≤ length out → after ≡ put out 0 bs

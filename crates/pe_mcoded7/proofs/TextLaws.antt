@@ -1,7 +1,7 @@
 -- The laws of texts and their groups: the first group and what follows, and the lengths.
 -- Assumes nothing.
 use Prim.Native.Nat.{ℕ, zero, suc, _+_, _-_, _/_, _%_, min, _<_, _≤_}
-use mathlib.Core.List.{List, [], _∷_, _++_}
+use mathlib.Core.List.{List, [], _∷_, _++_, append-nil}
 use mathlib.Core.Logic.{⊎-elim}
 use mathlib.Core.Path.{_≡_, refl, sym, ap, _∙_}
 use native.Mathlib.Nat.{le-refl}
@@ -9,7 +9,7 @@ use native.Mathlib.Omega.{arith}
 use borrow.Author.Tests.{leb-true, leb-false}
 use lib.Dec.{leb}
 use lib.ListN.{length, take, drop, length-append, length-take, length-drop, length-map, drop-of-length-le}
-use lib.Seq.{take-all, drop-drop}
+use lib.Seq.{take-all, take-at, drop-at, drop-drop}
 use Rattle.seven_bit.specs.Parts.{pieces, joined}
 use Rattle.seven_bit.proofs.ReplyLaws.{both}
 use Rattle.pe_mcoded7.specs.Mcoded7.{groupBytes, encoded, groups, restored, groupData, decoded}
@@ -50,6 +50,21 @@ after-group k i end s e =
     drop-of-length-le s {i = end} (omega arith) ∙ sym (drop-drop k i s ∙ drop-of-length-le s {i = i + k} (omega arith)))
     (both (leb k (length s - i)))
 
+-- a list in two parts, of which the first has k elements, or fewer where nothing follows
+take-front : (k : ℕ) (a b : List ℕ) → length a ≤ k → (length a < k → b ≡ []) → take k (a ++ b) ≡ a
+take-front k a b l h =
+    ⊎-elim
+    (λ t. take-at a b k (let g = leb-true k (length a) t in omega arith))
+    (λ f. rw (h (leb-false k (length a) f), append-nil) (take-all k a l))
+    (both (leb k (length a)))
+
+drop-front : (k : ℕ) (a b : List ℕ) → length a ≤ k → (length a < k → b ≡ []) → drop k (a ++ b) ≡ b
+drop-front k a b l h =
+    ⊎-elim
+    (λ t. drop-at a b k (let g = leb-true k (length a) t in omega arith))
+    (λ f. rw (h (leb-false k (length a) f), append-nil) (drop-of-length-le a l))
+    (both (leb k (length a)))
+
 -- the first group's text, and that of the rest
 pub encoded-none : encoded [] ≡ []
 unfolding encoded pieces joined
@@ -81,6 +96,26 @@ decoded-none = rw groups-none
 pub decoded-next : (s : List ℕ) → 0 < length s → decoded s ≡ groupData (take 8 s) ++ decoded (drop 8 s)
 unfolding decoded joined
 decoded-next s h = rw (groups-next s h)
+
+-- what is made of a list is made of its groups of k, one after the other
+pub record InGroups (k : ℕ) (one whole : List ℕ → List ℕ) : Type 0 where
+  pub none : whole [] ≡ []
+  pub next : (xs : List ℕ) → 0 < length xs → whole xs ≡ one (take k xs) ++ whole (drop k xs)
+
+pub encoded-groups : InGroups 7 groupBytes encoded
+encoded-groups = record { none = encoded-none; next = encoded-next }
+
+pub decoded-groups : InGroups 8 groupData decoded
+decoded-groups = record { none = decoded-none; next = decoded-next }
+
+-- where the first group's is of m elements, or of fewer and nothing follows: it, and what is made of the rest
+pub first-of : (k m : ℕ) (one whole : List ℕ → List ℕ) (w : InGroups k one whole) (xs : List ℕ) → 0 < length xs → length (one (take k xs)) ≤ m
+    → (length (one (take k xs)) < m → length xs ≤ k) → (take m (whole xs) ≡ one (take k xs)) × (drop m (whole xs) ≡ whole (drop k xs))
+first-of k m one whole w xs h within last =
+    let rest : length (one (take k xs)) < m → whole (drop k xs) ≡ [] = λ l. ap whole (drop-of-length-le xs {i = k} (last l)) ∙ w .none in (
+      ap (take m) (w .next xs h) ∙ take-front m (one (take k xs)) (whole (drop k xs)) within rest,
+      ap (drop m) (w .next xs h) ∙ drop-front m (one (take k xs)) (whole (drop k xs)) within rest,
+    )
 
 -- the lengths of a group
 pub length-group-bytes : (ds : List ℕ) → length (groupBytes ds) ≡ 1 + length ds

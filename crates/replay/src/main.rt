@@ -1,7 +1,8 @@
 // Plays a fixed list of the original's answers: records of a function's byte, the length of its input in two bytes, low one
 // first, and the input. For each it prints the port's answer on a line: the values, or r with the refusal's number and value;
-// then each byte of the lent output, behind a colon. Document 01's examples come first, those of the table among them. oracle/src/op.rs
-// says how a function's input reads, table.rt how a table call's; `make vectors` writes the list.
+// then each byte of the lent output, behind a colon. Document 01's examples come first, those of the table among them. A function's
+// byte is its place, from 1, in oracle/src/op.rs, which says how its input reads; 64 and up are the calls on a table (table.rt).
+// `make vectors` writes the list.
 mod table;
 
 use codec_exports::answer::CapsFields;
@@ -10,82 +11,6 @@ use hub::answer::Answer;
 use libc::STDOUT_FILENO;
 ghost use Prim.Native.Nat.{_<_, _≤_};
 ghost use lib.ListN.{length};
-
-const READ_U14_LE7: u8 = 1;
-
-const WRITE_U14_LE7: u8 = 2;
-
-const MUID_FROM_U32: u8 = 3;
-
-const MUID_ORDINARY: u8 = 4;
-
-const MUID_IS_BROADCAST: u8 = 5;
-
-const MUID_IS_RESERVED: u8 = 6;
-
-const MUID_ENCODE_7BIT_LE: u8 = 7;
-
-const MUID_DECODE_7BIT_LE: u8 = 8;
-
-const MUID_GENERATE: u8 = 9;
-
-const HEADER_DECODE: u8 = 10;
-
-const HEADER_ENCODE: u8 = 11;
-
-const IS_PE_CHUNKED_SUB_ID: u8 = 12;
-
-const KIND_OF: u8 = 13;
-
-const CAPS_DECODE: u8 = 14;
-
-const CAPS_ENCODE: u8 = 15;
-
-const MESSAGE_DECODE: u8 = 16;
-
-const MESSAGE_ENCODE: u8 = 17;
-
-const MCODED7_DECODE: u8 = 18;
-
-const MCODED7_ENCODE: u8 = 19;
-
-const FIRST_REQUEST_ID: u8 = 20;
-
-const ALLOC_OUT_REQUEST_ID: u8 = 21;
-
-const NEGOTIATED_REQUESTS: u8 = 22;
-
-const CHUNK_DECODE: u8 = 23;
-
-const CHUNK_ENCODE: u8 = 24;
-
-const CHUNK_REWRITE: u8 = 25;
-
-const CLAMP_MAX_SYSEX: u8 = 26;
-
-const PE_PAYLOAD_BUDGET: u8 = 27;
-
-const LATER_CAPACITY: u8 = 28;
-
-const FIRST_CAPACITY: u8 = 29;
-
-const CHUNK_COUNT: u8 = 30;
-
-const SPLIT_CHUNK: u8 = 31;
-
-const WHOLE_ENCODE: u8 = 32;
-
-const TABLE_NEW: u8 = 64;
-
-const TABLE_FEED: u8 = 65;
-
-const TABLE_CANCEL: u8 = 66;
-
-const TABLE_DROP_PEER: u8 = 67;
-
-const TABLE_POLL: u8 = 68;
-
-const TABLE_MEMORY_STATS: u8 = 69;
 
 // Bytes past the end are 0.
 fn u8_at(s: &[u8], at: usize) -> u8 {
@@ -250,15 +175,15 @@ fn whole_encode(kind: u8, source: u32, dest: u32, s: &[u8], out: &mut [u8]) -> A
 // The functions that write into a lent output.
 fn write(op: u8, s: &[u8], out: &mut [u8]) -> Answer {
     match op {
-        WRITE_U14_LE7 => codec_exports::pe::codec_write_u14_le7(u16_at(s, 2), out),
-        HEADER_ENCODE => codec_exports::ci::codec_header_encode(header_in(s), out),
-        CAPS_ENCODE => codec_exports::ci::codec_caps_encode(caps_in(s), out),
-        MESSAGE_ENCODE => codec_exports::ci::codec_message_encode(header_in(s), from(s, 13), out),
-        MCODED7_DECODE => codec_exports::pe::codec_mcoded7_decode(from(s, 2), out),
-        MCODED7_ENCODE => codec_exports::pe::codec_mcoded7_encode(from(s, 2), out),
-        CHUNK_REWRITE => codec_exports::pe::codec_rewrite(from(s, 2), out),
-        CHUNK_ENCODE => chunk_encode(from(s, 2), out),
-        SPLIT_CHUNK => split_chunk(u16_at(s, 2), from(s, 4), out),
+        2 => codec_exports::pe::codec_write_u14_le7(u16_at(s, 2), out),
+        11 => codec_exports::ci::codec_header_encode(header_in(s), out),
+        15 => codec_exports::ci::codec_caps_encode(caps_in(s), out),
+        17 => codec_exports::ci::codec_message_encode(header_in(s), from(s, 13), out),
+        18 => codec_exports::pe::codec_mcoded7_decode(from(s, 2), out),
+        19 => codec_exports::pe::codec_mcoded7_encode(from(s, 2), out),
+        25 => codec_exports::pe::codec_rewrite(from(s, 2), out),
+        24 => chunk_encode(from(s, 2), out),
+        31 => split_chunk(u16_at(s, 2), from(s, 4), out),
         _ => whole_encode(u8_at(s, 2), u32_at(s, 3), u32_at(s, 7), from(s, 11), out),
     }
 }
@@ -398,58 +323,37 @@ fn alloc_out_request_id(s: &[u8]) {
 // The functions that write nothing, but for the message and the chunk.
 fn play_reader(op: u8, s: &[u8]) {
     match op {
-        READ_U14_LE7 => print_answer(codec_exports::pe::codec_read_u14_le7(s)),
-        MUID_FROM_U32 => print_answer(codec_exports::ci::codec_muid_from_u32(u32_at(s, 0))),
-        MUID_ORDINARY => print_answer(codec_exports::ci::codec_muid_ordinary(u32_at(s, 0))),
-        MUID_IS_BROADCAST => print_flag(codec_exports::ci::codec_muid_is_broadcast(u32_at(s, 0))),
-        MUID_IS_RESERVED => print_flag(codec_exports::ci::codec_muid_is_reserved(u32_at(s, 0))),
-        MUID_ENCODE_7BIT_LE => muid_encode(s),
-        MUID_DECODE_7BIT_LE => muid_decode(s),
-        MUID_GENERATE => muid_generate(s),
-        HEADER_DECODE => header_decode(s),
-        IS_PE_CHUNKED_SUB_ID => print_flag(codec_exports::ci::codec_is_pe_chunked_sub_id(u8_at(
-            s,
-            0,
-        ))),
-        KIND_OF => kind_of(s),
-        CAPS_DECODE => caps_decode(s),
-        FIRST_REQUEST_ID => print_byte(codec_exports::pe::codec_first_request_id()),
-        ALLOC_OUT_REQUEST_ID => alloc_out_request_id(s),
-        NEGOTIATED_REQUESTS => print_byte(codec_exports::pe::codec_negotiated_requests(
-            u8_at(s, 0),
-            u8_at(s, 1),
-        )),
-        CLAMP_MAX_SYSEX => {
-            print_value(codec_exports::pe::codec_clamp_max_sysex(u32_at(s, 0)) as u64)
-        }
-        PE_PAYLOAD_BUDGET => {
-            print_value(codec_exports::pe::codec_pe_payload_budget(u32_at(s, 0)))
-        }
-        LATER_CAPACITY => {
-            print_value(codec_exports::pe::codec_later_chunk_property_capacity(u32_at(s, 0)))
-        }
-        FIRST_CAPACITY => print_answer(first_capacity(s)),
-        CHUNK_COUNT => print_answer(chunk_count(s)),
+        1 => print_answer(codec_exports::pe::codec_read_u14_le7(s)),
+        3 => print_answer(codec_exports::ci::codec_muid_from_u32(u32_at(s, 0))),
+        4 => print_answer(codec_exports::ci::codec_muid_ordinary(u32_at(s, 0))),
+        5 => print_flag(codec_exports::ci::codec_muid_is_broadcast(u32_at(s, 0))),
+        6 => print_flag(codec_exports::ci::codec_muid_is_reserved(u32_at(s, 0))),
+        7 => muid_encode(s),
+        8 => muid_decode(s),
+        9 => muid_generate(s),
+        10 => header_decode(s),
+        12 => print_flag(codec_exports::ci::codec_is_pe_chunked_sub_id(u8_at(s, 0))),
+        13 => kind_of(s),
+        14 => caps_decode(s),
+        20 => print_byte(codec_exports::pe::codec_first_request_id()),
+        21 => alloc_out_request_id(s),
+        22 => print_byte(codec_exports::pe::codec_negotiated_requests(u8_at(s, 0), u8_at(s, 1))),
+        26 => print_value(codec_exports::pe::codec_clamp_max_sysex(u32_at(s, 0)) as u64),
+        27 => print_value(codec_exports::pe::codec_pe_payload_budget(u32_at(s, 0))),
+        28 => print_value(codec_exports::pe::codec_later_chunk_property_capacity(u32_at(s, 0))),
+        29 => print_answer(first_capacity(s)),
+        30 => print_answer(chunk_count(s)),
         _ => print_flag(false),
     }
     print_out(b"");
 }
 
-// The functions that need no memory but an output.
+// The functions that need no memory but an output, the writers first.
 fn play_function(op: u8, s: &[u8]) {
     match op {
-        WRITE_U14_LE7
-        | HEADER_ENCODE
-        | CAPS_ENCODE
-        | MESSAGE_ENCODE
-        | MCODED7_DECODE
-        | MCODED7_ENCODE
-        | CHUNK_ENCODE
-        | CHUNK_REWRITE
-        | SPLIT_CHUNK
-        | WHOLE_ENCODE => play_writer(op, s),
-        MESSAGE_DECODE => play_message(s),
-        CHUNK_DECODE => play_chunk(s),
+        2 | 11 | 15 | 17 | 18 | 19 | 24 | 25 | 31 | 32 => play_writer(op, s),
+        16 => play_message(s),
+        23 => play_chunk(s),
         _ => play_reader(op, s),
     }
 }
@@ -463,12 +367,12 @@ fn play(
     arenas: &mut [u8],
 ) {
     match op {
-        TABLE_NEW => table::new(numbers, index, headers, arenas),
-        TABLE_FEED => table::feed(s, numbers, index, headers, arenas),
-        TABLE_CANCEL => table::cancel(s, numbers),
-        TABLE_DROP_PEER => table::drop_peer(s, numbers),
-        TABLE_POLL => table::poll(s, numbers),
-        TABLE_MEMORY_STATS => table::memory_stats(numbers),
+        64 => table::new(numbers, index, headers, arenas),
+        65 => table::feed(s, numbers, index, headers, arenas),
+        66 => table::cancel(s, numbers),
+        67 => table::drop_peer(s, numbers),
+        68 => table::poll(s, numbers),
+        69 => table::memory_stats(numbers),
         _ => play_function(op, s),
     }
 }

@@ -13,25 +13,17 @@ use crate::u8_at;
 use crate::u32_at;
 use crate::u64_at;
 
-const MAX_PEERS: usize = 1;
+// The shape, by document 01's letters.
+const N: usize = 1;
 
-const HEADER_BYTES: usize = 4096;
+const H: usize = 4096;
 
-const TX_BYTES: usize = 65_536;
+const B: usize = 65_536;
 
-const FRAGMENT_RECORDS: usize = 2048;
+const R: usize = 2048;
 
 pub(crate) fn new(numbers: &mut [u64], index: &mut [u64], headers: &[u8], arenas: &[u8]) {
-    let answer = hub::table::midici_pe_new(
-        MAX_PEERS,
-        HEADER_BYTES,
-        TX_BYTES,
-        FRAGMENT_RECORDS,
-        numbers,
-        index,
-        headers,
-        arenas,
-    );
+    let answer = hub::table::midici_pe_new(N, H, B, R, numbers, index, headers, arenas);
     print_answer(answer);
     print_out(b"");
 }
@@ -46,10 +38,10 @@ pub(crate) fn feed(
     let mut out_header = [0u8; 4096];
     let mut out_body = [0u8; 65536];
     let answer = hub::table::midici_pe_feed(
-        MAX_PEERS,
-        HEADER_BYTES,
-        TX_BYTES,
-        FRAGMENT_RECORDS,
+        N,
+        H,
+        B,
+        R,
         numbers,
         index,
         headers,
@@ -75,27 +67,12 @@ pub(crate) fn feed(
 }
 
 pub(crate) fn cancel(s: &[u8], numbers: &mut [u64]) {
-    print_answer(hub::table::midici_pe_cancel(
-        MAX_PEERS,
-        HEADER_BYTES,
-        TX_BYTES,
-        FRAGMENT_RECORDS,
-        numbers,
-        u32_at(s, 0),
-        u8_at(s, 4),
-    ));
+    print_answer(hub::table::midici_pe_cancel(N, H, B, R, numbers, u32_at(s, 0), u8_at(s, 4)));
     print_out(b"");
 }
 
 pub(crate) fn drop_peer(s: &[u8], numbers: &mut [u64]) {
-    print_answer(hub::table::midici_pe_drop_peer(
-        MAX_PEERS,
-        HEADER_BYTES,
-        TX_BYTES,
-        FRAGMENT_RECORDS,
-        numbers,
-        u32_at(s, 0),
-    ));
+    print_answer(hub::table::midici_pe_drop_peer(N, H, B, R, numbers, u32_at(s, 0)));
     print_out(b"");
 }
 
@@ -111,10 +88,10 @@ pub(crate) fn poll(s: &[u8], numbers: &mut [u64]) {
     let mut peers = [0u64; 4];
     let mut request_ids = [0u64; 4];
     let answer = hub::table::midici_pe_poll(
-        MAX_PEERS,
-        HEADER_BYTES,
-        TX_BYTES,
-        FRAGMENT_RECORDS,
+        N,
+        H,
+        B,
+        R,
         numbers,
         u64_at(s, 0),
         &mut peers,
@@ -129,13 +106,7 @@ pub(crate) fn poll(s: &[u8], numbers: &mut [u64]) {
 }
 
 pub(crate) fn memory_stats(numbers: &mut [u64]) {
-    let answer = hub::table::midici_pe_memory_stats(
-        MAX_PEERS,
-        HEADER_BYTES,
-        TX_BYTES,
-        FRAGMENT_RECORDS,
-        numbers,
-    );
+    let answer = hub::table::midici_pe_memory_stats(N, H, B, R, numbers);
     print_value(answer.reserved_bytes);
     print_value(answer.active_bytes);
     print_value(answer.active_slots);

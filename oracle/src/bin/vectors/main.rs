@@ -126,6 +126,12 @@ fn calls(calls: &[table::Call]) -> Played {
     (records.flat_map(|(code, input)| record(code, &input)).collect(), table::answers(calls))
 }
 
+/// Are all answers of a feed that short chunks reach in the list?
+fn all_reached() -> bool {
+    let calls: Vec<table::Call> = table::examples().into_iter().chain(table::runs()).collect();
+    table::ends(&calls, &table::answers(&calls)) == table::reached()
+}
+
 fn main() -> std::io::Result<()> {
     let dir = std::env::args().nth(1).expect("usage: vectors DIR");
     let replayed = Op::ALL.into_iter().filter(|(op, _)| op.row().replayed);
@@ -135,6 +141,7 @@ fn main() -> std::io::Result<()> {
     let (list, answers) = (records.concat(), answers.into_iter().flatten().collect::<Vec<Outcome>>());
     let refused: BTreeSet<u8> = answers.iter().filter_map(|answer| answer.reply.as_ref().err()).map(|r| r.number).collect();
     assert_eq!(refused, refusals(), "every refusal is in the list");
+    assert!(all_reached(), "every answer of a feed is in the list");
     assert!(list.len() <= LIST, "the list has {} bytes", list.len());
     std::fs::write(format!("{dir}/stdin"), list)?;
     std::fs::write(format!("{dir}/stdout"), answers.iter().map(|answer| format!("{answer}\n")).collect::<String>())

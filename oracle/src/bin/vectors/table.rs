@@ -2,8 +2,9 @@
 //! so: peer (4) and time (8) in front of a chunk that is fed; peer and request id; peer; time; nothing.
 use midici_core::muid::Muid;
 use midici_pe::reassembler::{ReassembleEvent, Reassembler};
-use oracle::outcome::Outcome;
+use oracle::outcome::{Answer, Outcome};
 use oracle::random::Rng;
+use std::collections::BTreeSet;
 
 const MAX_PEERS: usize = 1;
 const RUNS: usize = 60;
@@ -30,6 +31,24 @@ impl Call {
             Call::MemoryStats => (69, Vec::new()),
         }
     }
+}
+
+/// What short chunks reach: of a feed's refusals 5 is left out, and 28, 30 and 31, which the original does not have.
+pub fn reached() -> BTreeSet<Answer> {
+    let refusals = [1, 2, 4, 6, 7, 8].map(Answer::Refused);
+    [Answer::Waiting, Answer::Whole].into_iter().chain(refusals).collect()
+}
+
+/// How the feeds among the calls ended.
+pub fn ends(calls: &[Call], answers: &[Outcome]) -> BTreeSet<Answer> {
+    let feeds = calls.iter().zip(answers).filter(|(call, _)| matches!(call, Call::Feed { .. }));
+    feeds
+        .map(|(_, answer)| match &answer.reply {
+            Err(refusal) => Answer::Refused(refusal.number),
+            Ok(values) if values[0] == 0 => Answer::Waiting,
+            Ok(_) => Answer::Whole,
+        })
+        .collect()
 }
 
 /// The original's answers, one call after the other. A feed: whole or not, and the two lengths, with header and body as the

@@ -7,10 +7,9 @@ use Rattle.pe_mcoded7.proofs.groups.decode_into.Statement.{statement}
 use Rattle.pe_mcoded7.proofs.groups.decode_into.Tie as tie
 use denote.Ref.{now}
 use Rattle.seven_bit.specs.Parts.{put}
-use Rattle.seven_bit.proofs.PartLaws.{length-put}
-use Rattle.pe_mcoded7.specs.Mcoded7.{decoded}
-use Rattle.pe_mcoded7.proofs.TextLaws.{length-decoded, room-decoded}
-use Rattle.pe_mcoded7.proofs.StoreLaws.{decode-next, decode-end}
+use Rattle.pe_mcoded7.specs.Mcoded7.{groupData, decoded}
+use Rattle.pe_mcoded7.proofs.TextLaws.{decoded-groups, length-decoded, room-decoded}
+use Rattle.pe_mcoded7.proofs.StoreLaws.{decode-next, group-none}
 use Rattle.pe_mcoded7.proofs.AskLaws.{seven-bit-take, seven-bit-drop}
 
 abbrev Inv-loop : tie.InvT-loop
@@ -64,18 +63,15 @@ loop-again : tie.Need-loop-again Inv-loop μ-loop
 loop-again c =
     let g = c .before .before in
     let l = g .before .before .before .before .before .loop in
-    let end = g .before .before .before .group-end .result in (
-      search needs,
-      room-decoded _ (l .i) end (l .at) _ (omega arith) (omega arith) (l .inv .1),
-      decode-next (l .out) _ _ (l .at) (l .i) end (omega arith) (omega arith) (g .decode-group .ensures) ∙ l .inv .2,
-      ap length (g .decode-group .ensures) ∙ length-put _ _ _ ∙ l .inv .3,
-    )
+    let end = g .before .before .before .group-end .result in
+    let r = decode-next _ (l .out) _ _ (l .at) (l .i) end (omega arith) (omega arith) (l .inv .2) (l .inv .3) (g .decode-group .ensures) in
+    (search needs, room-decoded _ (l .i) end (l .at) _ (omega arith) (omega arith) (l .inv .1), r .0, r .1)
 
 same-length : tie.Need-same-length Inv-loop μ-loop
 same-length c = search needs
 
 returns : tie.Need-returns Inv-loop μ-loop
-returns c = sym (decode-end _ _ _ (drop-of-length-le (now (c .before .before .before .before .args .input)) (c .loop-test .left))) ∙ c .before .loop .inv .2
+returns c = sym (group-none 8 groupData decoded decoded-groups _ _ _ (drop-of-length-le (now (c .before .before .before .before .args .input)) (c .loop-test .left))) ∙ c .before .loop .inv .2
 
 pub decode-into-spec : {M : Type 1} → statement M
 decode-into-spec =

@@ -7,10 +7,9 @@ use Rattle.pe_mcoded7.proofs.groups.encode_into.Statement.{statement}
 use Rattle.pe_mcoded7.proofs.groups.encode_into.Tie as tie
 use denote.Ref.{now}
 use Rattle.seven_bit.specs.Parts.{put}
-use Rattle.seven_bit.proofs.PartLaws.{length-put}
-use Rattle.pe_mcoded7.specs.Mcoded7.{encoded}
-use Rattle.pe_mcoded7.proofs.TextLaws.{length-encoded, room-encoded}
-use Rattle.pe_mcoded7.proofs.StoreLaws.{encode-next, encode-end}
+use Rattle.pe_mcoded7.specs.Mcoded7.{groupBytes, encoded}
+use Rattle.pe_mcoded7.proofs.TextLaws.{encoded-groups, length-encoded, room-encoded}
+use Rattle.pe_mcoded7.proofs.StoreLaws.{encode-next, group-none}
 
 abbrev Inv-loop : tie.InvT-loop
 Inv-loop input out₀ i₀ at₀ out i at =
@@ -56,18 +55,15 @@ loop-again : tie.Need-loop-again Inv-loop μ-loop
 loop-again c =
     let g = c .before .before in
     let l = g .before .before .before .before .before .loop in
-    let end = g .before .before .before .group-end .result in (
-      search needs,
-      room-encoded _ (l .i) end (l .at) _ (omega arith) (omega arith) (l .inv .1),
-      encode-next (l .out) _ _ (l .at) (l .i) end (omega arith) (omega arith) (g .encode-group .ensures) ∙ l .inv .2,
-      ap length (g .encode-group .ensures) ∙ length-put _ _ _ ∙ l .inv .3,
-    )
+    let end = g .before .before .before .group-end .result in
+    let r = encode-next _ (l .out) _ _ (l .at) (l .i) end (omega arith) (omega arith) (l .inv .2) (l .inv .3) (g .encode-group .ensures) in
+    (search needs, room-encoded _ (l .i) end (l .at) _ (omega arith) (omega arith) (l .inv .1), r .0, r .1)
 
 same-length : tie.Need-same-length Inv-loop μ-loop
 same-length c = search needs
 
 returns : tie.Need-returns Inv-loop μ-loop
-returns c = sym (encode-end _ _ _ (drop-of-length-le (now (c .before .before .before .before .args .input)) (c .loop-test .left))) ∙ c .before .loop .inv .2
+returns c = sym (group-none 7 groupBytes encoded encoded-groups _ _ _ (drop-of-length-le (now (c .before .before .before .before .args .input)) (c .loop-test .left))) ∙ c .before .loop .inv .2
 
 pub encode-into-spec : {M : Type 1} → statement M
 encode-into-spec =
