@@ -4,90 +4,18 @@
 
 enum { HEADER_BYTES = 8, TX_BYTES = 32, RECORDS = 4 }; /* of make_begun's table */
 
-/* An answer's refusal. With a refusal every other field must be 0. */
-static uint8_t only_refusal(uint8_t refusal, uint8_t value, uint64_t rest)
-{
-    check(refusal == 0 || (value == 0 && rest == 0), "with a refusal all else is 0", "a call on a table");
-    return refusal;
-}
-
-static uint8_t of_answer(midici_pe_answer answer) { return only_refusal(answer.refusal, answer.value, answer.count); }
-
-static uint8_t of_fed(midici_pe_fed answer)
-{
-    return only_refusal(answer.refusal, answer.value, answer.whole | answer.header_len | answer.body_len);
-}
-
-static uint8_t of_stats(midici_pe_stats answer)
-{
-    return only_refusal(answer.refusal, answer.value, answer.reserved_bytes | answer.active_bytes | answer.active_slots);
-}
-
-/* Each call, with a chunk, a message or a peer that is right, or one that would be refused too. */
-struct given {
-    struct bytes chunk, message;
-    uint32_t peer;
-};
-
-static uint8_t call_new(struct table *t, const struct given *g) { return (void)g, of_answer(table_new(t)); }
-
-static uint8_t call_feed(struct table *t, const struct given *g)
-{
-    return of_fed(table_feed(t, g->peer, g->chunk.at, g->chunk.len, 1000));
-}
-
-static uint8_t call_message(struct table *t, const struct given *g)
-{
-    return of_fed(table_feed_message(t, g->message.at, g->message.len, 1000));
-}
-
-static uint8_t call_cancel(struct table *t, const struct given *g) { return of_answer(table_cancel(t, g->peer, 5)); }
-
-static uint8_t call_drop(struct table *t, const struct given *g) { return of_answer(table_drop_peer(t, g->peer)); }
-
-static uint8_t call_poll(struct table *t, const struct given *g) { return (void)g, of_answer(table_poll(t, 9000)); }
-
-static uint8_t call_open(struct table *t, const struct given *g) { return (void)g, of_answer(table_open_list(t)); }
-
-static uint8_t call_stats(struct table *t, const struct given *g) { return (void)g, of_stats(table_memory_stats(t)); }
-
-static uint8_t call_reserved(struct table *t, const struct given *g) { return (void)g, of_answer(table_reserved_bytes(t)); }
-
-/* The calls on a table, one row each: the slices that it is lent, and what it answers on a table of no peers and to a peer
- * above 28 bits. */
-enum {
-    ROOMS = 1 << NUMBERS | 1 << INDEX | 1 << HEADERS | 1 << ARENAS,
-    WHOLE = ROOMS | 1 << OUT_HEADER | 1 << OUT_BODY,
-    COLUMNS = 1 << NUMBERS | 1 << OUT_PEERS | 1 << OUT_REQUEST_IDS
-};
-
-static const struct call {
-    const char *name;
-    uint8_t (*refusal)(struct table *, const struct given *);
-    int lent;
-    uint8_t no_peers, wrong_peer;
-} calls[] = {
-    {"new", call_new, ROOMS, 0, 0},
-    {"feed", call_feed, WHOLE, 7, 28},
-    {"feed_message", call_message, WHOLE, 7, 21},
-    {"cancel", call_cancel, 1 << NUMBERS, 0, 28},
-    {"drop_peer", call_drop, 1 << NUMBERS, 0, 28},
-    {"poll", call_poll, COLUMNS, 0, 0},
-    {"open_list", call_open, COLUMNS | 1 << OUT_CHUNKS_HELD, 0, 0},
-    {"memory_stats", call_stats, 1 << NUMBERS, 0, 0},
-    {"reserved_bytes", call_reserved, 0, 0, 0},
-};
-
-enum { CALLS = sizeof calls / sizeof calls[0] };
-
+/* Makes a call with a chunk, a message and a peer that are right, or that would be refused too: its refusal. With a refusal
+ * every other field must be 0. */
 static uint8_t refusal_of(const struct call *call, struct table *table, bool wrong)
 {
-    struct given given = {.chunk = chunk_of((struct fields){wrong ? 0x80 : 5, "", 3, 3, "f"}),
-                          .peer = wrong ? UINT32_MAX : 1};
-    given.message = message_of(0x35, 1, 9, &given.chunk);
-    if (wrong)
-        given.message.len = 5;
-    return call->refusal(table, &given);
+    struct bytes chunk = chunk_of((struct fields){wrong ? 0x80 : 5, "", 3, 3, "f"});
+    struct bytes message = message_of(0x35, 1, 9, &chunk), *given = call->bytes == A_MESSAGE ? &message : &chunk;
+    struct lent bytes = {.at = given->at, .len = wrong ? 5 : given->len};
+    struct told told = call->made(
+        table, &(struct given){.peer = wrong ? UINT32_MAX : 1, .request_id = 5, .now_ms = 1000, .bytes = &bytes});
+    check(told.refusal == 0 || (told.value | told.numbers[0] | told.numbers[1] | told.numbers[2]) == 0,
+          "with a refusal all else is 0", call->name);
+    return told.refusal;
 }
 
 /* A slice one element short, or NULL: 30 where the call is lent it, and nothing otherwise. */
@@ -315,10 +243,10 @@ static void test_no_table(void)
 
 void test_lent_memory(void)
 {
-    for (size_t i = 0; i < CALLS; i++) {
-        test_shapes_and_slices(&calls[i]);
-        test_wrong_peer(&calls[i]);
-        test_no_peers(&calls[i]);
+    for (const struct call *call = calls; call->name != NULL; call++) {
+        test_shapes_and_slices(call);
+        test_wrong_peer(call);
+        test_no_peers(call);
     }
     test_nothing();
     test_longest();
