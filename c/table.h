@@ -93,6 +93,37 @@ static inline midici_pe_stats table_memory_stats(struct table *table)
 midici_pe_answer model_reserved_bytes(struct table *table);
 static inline midici_pe_answer table_reserved_bytes(struct table *table) { return midici_pe_reserved_bytes(SHAPE(table)); }
 
+/* ---- A row for each call ---- */
+
+/* What a call is given besides the table. Each takes what it needs of it. */
+struct given {
+    uint32_t peer;
+    uint8_t request_id;
+    uint64_t now_ms;
+    const struct lent *bytes;
+};
+
+/* What a call answers: the numbers behind refusal and value, in their order, and 0 for those that it has not. */
+struct told {
+    uint8_t refusal, value;
+    uint64_t numbers[3];
+};
+
+enum given_bytes { NO_BYTES, A_CHUNK, A_MESSAGE };
+
+/* The call and its model, the slices that it is lent (a bit each), the bytes that it is given, and what it answers on a
+ * table of no peers and to a peer above 28 bits (or to five bytes in place of a message). The first row is that of new; one
+ * without a name is the last. */
+struct call {
+    const char *name;
+    struct told (*made)(struct table *, const struct given *);
+    struct told (*model)(struct table *, const struct given *);
+    int lent;
+    enum given_bytes bytes;
+    uint8_t no_peers, wrong_peer;
+};
+extern const struct call calls[];
+
 /* ---- The model of what has no table ---- */
 
 midici_pe_answer model_chunk_count(uint8_t request_id, const struct lent *header, const struct lent *body,

@@ -29,36 +29,32 @@ static bool same_answer(midici_pe_answer a, midici_pe_answer b)
     return a.refusal == b.refusal && a.value == b.value && a.count == b.count;
 }
 
-static bool same_fed(midici_pe_fed a, midici_pe_fed b)
+static bool same_told(struct told a, struct told b)
 {
-    return a.refusal == b.refusal && a.value == b.value && a.whole == b.whole && a.header_len == b.header_len &&
-           a.body_len == b.body_len;
+    return a.refusal == b.refusal && a.value == b.value && a.numbers[0] == b.numbers[0] && a.numbers[1] == b.numbers[1] &&
+           a.numbers[2] == b.numbers[2];
 }
 
-static bool same_stats(midici_pe_stats a, midici_pe_stats b)
+/* After a call, before the model has worked on the kept copies. A chunk that reached its list may be refused and yet leave
+ * something. */
+static void check_call(struct lending *lending, const struct call *call, uint8_t refusal)
 {
-    return a.refusal == b.refusal && a.value == b.value && a.reserved_bytes == b.reserved_bytes &&
-           a.active_bytes == b.active_bytes && a.active_slots == b.active_slots;
-}
-
-/* After a call, before the model has worked on the kept copies. */
-static void check_call(struct lending *lending, uint8_t refusal, bool may_change)
-{
+    bool may_change = call->bytes != NO_BYTES && (refusal == 4 || refusal == 8 || refusal == 5);
     must(table_guarded(&lending->table), "nothing before a slice is written");
     must(refusal == 0 || may_change || table_same(&lending->table), "a refusal leaves everything");
     must(refusal != 31 || !lending->is_sound, "a table that only calls have written is not damaged");
 }
 
-static void check_fed(struct lending *lending, midici_pe_fed fed)
+static void check_fed(struct lending *lending, struct told fed)
 {
     struct table *table = &lending->table;
-    bool may_be_the_slots = fed.refusal == 4 || fed.refusal == 8 || fed.refusal == 5;
-    check_call(lending, fed.refusal, may_be_the_slots);
-    must(fed.header_len <= table->header_bytes && fed.body_len <= table->tx_bytes, "a whole list fits");
-    must(lent_same_from(&table->lent[OUT_HEADER], (size_t)fed.header_len), "bytes past the header stay");
-    must(lent_same_from(&table->lent[OUT_BODY], (size_t)fed.body_len), "bytes past the body stay");
+    size_t header_len = (size_t)fed.numbers[1], body_len = (size_t)fed.numbers[2];
+    must(header_len <= table->header_bytes && body_len <= table->tx_bytes, "a whole list fits");
+    must(lent_same_from(&table->lent[OUT_HEADER], header_len), "bytes past the header stay");
+    must(lent_same_from(&table->lent[OUT_BODY], body_len), "bytes past the body stay");
     must(fed.refusal == 0 || (lent_same_from(&table->lent[ARENAS], 0) && lent_same_from(&table->lent[INDEX], 0)),
          "a refused chunk is not taken");
+    must(lent_same_from(&lending->body, 0) && lent_guarded(&lending->body), "the chunk or the message stays");
 }
 
 /* A row of the open list stands in the one as often as in the other. */
@@ -91,116 +87,45 @@ static void same_rows(struct table *table, uint64_t count)
 
 /* ---- The calls ---- */
 
-static void call_feed(struct input *input, struct lending *lending)
+/* A chunk or a message, mostly one that can be read. */
+static void choose_given(struct input *input, struct lending *lending, enum given_bytes bytes)
 {
-    struct table *table = &lending->table;
-    struct lent *raw = &lending->body;
-    uint32_t peer = take_muid(input);
-    uint64_t now_ms = take_number(input);
-    if (take(input) < 32)
-        choose_bytes(input, raw);
-    else
-        choose_chunk(input, table, raw, 0);
-    lent_keep(raw);
-    table_keep(table);
-    midici_pe_fed fed = table_feed(table, peer, raw->at, raw->len, now_ms);
-    check_fed(lending, fed);
-    must(same_fed(fed, model_feed(table, peer, raw, now_ms)), "feed answers as the model");
-    must(table_same(table), "feed leaves what the model says");
-    must(lent_same_from(raw, 0) && lent_guarded(raw), "the chunk stays");
-}
-
-static void call_feed_message(struct input *input, struct lending *lending)
-{
-    struct table *table = &lending->table;
     struct lent *body = &lending->body;
-    uint64_t now_ms = take_number(input);
     unsigned odd = take(input);
     if (odd < 32) {
         choose_bytes(input, body);
+    } else if (bytes == A_CHUNK) {
+        choose_chunk(input, &lending->table, body, 0);
     } else {
-        choose_chunk(input, table, body, 13);
+        choose_chunk(input, &lending->table, body, 13);
         const uint8_t header[13] = {0x7E, 0x7F, 0x0D, 0x35, 2, (uint8_t)(take(input) % 5), 0, 0, 0, 1, 2, 3, 4};
         memcpy(body->at, header, sizeof header);
         if (odd >= 224)
             put_any(input, body->at, sizeof header);
     }
-    lent_keep(body);
-    table_keep(table);
-    midici_pe_fed fed = table_feed_message(table, body->at, body->len, now_ms);
-    check_fed(lending, fed);
-    must(same_fed(fed, model_feed_message(table, body, now_ms)), "feed_message answers as the model");
-    must(table_same(table), "feed_message leaves what the model says");
-    must(lent_same_from(body, 0) && lent_guarded(body), "the message stays");
 }
 
-/* The answer is the model's, and every slice holds what the model has put into the kept copies. */
-static void held_against(struct lending *lending, midici_pe_answer called, midici_pe_answer wanted, const char *call)
-{
-    must(same_answer(called, wanted), call);
-    must(table_same(&lending->table), call);
-}
-
-static void call_new(struct lending *lending)
+/* One call on the table: its answer and what it leaves are the model's. */
+static void call_table(struct input *input, struct lending *lending, const struct call *call)
 {
     struct table *table = &lending->table;
+    struct given given = {.bytes = &lending->body};
+    given.peer = take_muid(input);
+    given.request_id = (uint8_t)(take(input) % 6);
+    given.now_ms = take_number(input);
+    if (call->bytes != NO_BYTES)
+        choose_given(input, lending, call->bytes);
+    lent_keep(&lending->body);
     table_keep(table);
-    midici_pe_answer answer = table_new(table);
-    check_call(lending, answer.refusal, false);
-    lending->is_sound = lending->is_sound || answer.refusal == 0;
-    held_against(lending, answer, model_new(table), "new");
-}
-
-static void call_cancel(struct input *input, struct lending *lending)
-{
-    struct table *table = &lending->table;
-    uint32_t peer = take_muid(input);
-    uint8_t request_id = (uint8_t)(take(input) % 6);
-    table_keep(table);
-    midici_pe_answer answer = table_cancel(table, peer, request_id);
-    check_call(lending, answer.refusal, false);
-    held_against(lending, answer, model_cancel(table, peer, request_id), "cancel");
-}
-
-static void call_drop_peer(struct input *input, struct lending *lending)
-{
-    struct table *table = &lending->table;
-    uint32_t peer = take_muid(input);
-    table_keep(table);
-    midici_pe_answer answer = table_drop_peer(table, peer);
-    check_call(lending, answer.refusal, false);
-    held_against(lending, answer, model_drop_peer(table, peer), "drop_peer");
-}
-
-static void call_poll(struct input *input, struct lending *lending)
-{
-    struct table *table = &lending->table;
-    uint64_t now_ms = take_number(input);
-    table_keep(table);
-    midici_pe_answer answer = table_poll(table, now_ms);
-    check_call(lending, answer.refusal, false);
-    held_against(lending, answer, model_poll(table, now_ms), "poll");
-}
-
-static void call_open_list(struct lending *lending)
-{
-    struct table *table = &lending->table;
-    table_keep(table);
-    midici_pe_answer answer = table_open_list(table);
-    check_call(lending, answer.refusal, false);
-    must(same_answer(answer, model_open_list(table)), "open_list");
-    same_rows(table, answer.count);
-    must(table_same(table), "open_list");
-}
-
-static void call_totals(struct lending *lending)
-{
-    struct table *table = &lending->table;
-    table_keep(table);
-    must(same_stats(table_memory_stats(table), model_memory_stats(table)), "memory_stats");
-    must(same_answer(table_reserved_bytes(table), model_reserved_bytes(table)), "reserved_bytes");
-    check_call(lending, 0, false);
-    must(table_same(table), "the totals leave everything");
+    struct told told = call->made(table, &given);
+    check_call(lending, call, told.refusal);
+    if (call->bytes != NO_BYTES)
+        check_fed(lending, told);
+    must(same_told(told, call->model(table, &given)), call->name);
+    if (call->lent >> OUT_CHUNKS_HELD & 1)
+        same_rows(table, told.numbers[0]);
+    must(table_same(table), call->name);
+    lending->is_sound = lending->is_sound || (call == &calls[0] && told.refusal == 0);
 }
 
 /* After a call of the cutter or the writer. */
@@ -264,48 +189,36 @@ static void damage(struct input *input, struct lending *lending)
     lending->is_sound = false;
 }
 
+/* Feeds are made more often than the other calls. */
 static void call_any(struct input *input, struct lending *lending)
 {
-    switch (take(input) % 32) {
+    size_t rows = 0;
+    while (calls[rows].name != NULL)
+        rows++;
+    unsigned choice = take(input);
+    const struct call *call = &calls[choice / 16 % rows];
+    switch (choice % 16) {
     case 0:
-        call_new(lending);
-        break;
-    case 1:
-        call_cancel(input, lending);
-        break;
-    case 2:
-        call_drop_peer(input, lending);
-        break;
-    case 3:
-    case 4:
-        call_poll(input, lending);
-        break;
-    case 5:
-        call_open_list(lending);
-        break;
-    case 6:
-        call_totals(lending);
-        break;
-    case 7:
         call_split(input, lending);
         break;
-    case 8:
+    case 1:
         call_encode_message(input, lending);
         break;
-    case 9:
+    case 2:
         call_alloc(input);
         break;
-    case 10:
+    case 3:
         damage(input, lending);
         break;
-    case 11:
-    case 12:
-    case 13:
-    case 14:
-        call_feed_message(input, lending);
+    case 4:
+    case 5:
+    case 6:
+        call_table(input, lending, call);
         break;
     default:
-        call_feed(input, lending);
+        while (call->bytes == NO_BYTES || (choice % 16 > 8 && call->bytes == A_MESSAGE))
+            call = call[1].name != NULL ? call + 1 : calls;
+        call_table(input, lending, call);
     }
 }
 
@@ -314,7 +227,7 @@ int LLVMFuzzerTestOneInput(const uint8_t *data, size_t size)
     struct input input = {data, size};
     struct lending *lending = choose_lending(&input);
     if (take(&input) % 2 == 0)
-        call_new(lending);
+        call_table(&input, lending, &calls[0]);
     else
         fill_table(&input, &lending->table);
     for (int calls = 0; calls < MOST_CALLS && input.left > 0; calls++)

@@ -40,22 +40,6 @@ void make_begun(struct table *table);
 /* Checks a refusal that leaves the table as it was kept. */
 void check_refused(const struct table *table, midici_pe_fed answer, uint8_t refusal, uint8_t value, const char *of);
 
-/* What a call on a table is given: a chunk, a message and a peer that are right, or that would be refused too. */
-struct given {
-    struct bytes chunk, message;
-    uint32_t peer;
-};
-
-/* The calls on a table, a row each: makes the call and tells its refusal, the slices that it is lent, and what it answers
- * on a table of no peers and to a peer above 28 bits. A row without a name is the last one. */
-struct call {
-    const char *name;
-    uint8_t (*refusal)(struct table *, const struct given *);
-    int lent;
-    uint8_t no_peers, wrong_peer;
-};
-extern const struct call calls[];
-
 /* The tests, by subject. */
 void test_sending(void);
 void test_feeding(void);

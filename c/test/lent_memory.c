@@ -4,14 +4,18 @@
 
 enum { HEADER_BYTES = 8, TX_BYTES = 32, RECORDS = 4 }; /* of make_begun's table */
 
+/* Makes a call with a chunk, a message and a peer that are right, or that would be refused too: its refusal. With a refusal
+ * every other field must be 0. */
 static uint8_t refusal_of(const struct call *call, struct table *table, bool wrong)
 {
-    struct given given = {.chunk = chunk_of((struct fields){wrong ? 0x80 : 5, "", 3, 3, "f"}),
-                          .peer = wrong ? UINT32_MAX : 1};
-    given.message = message_of(0x35, 1, 9, &given.chunk);
-    if (wrong)
-        given.message.len = 5;
-    return call->refusal(table, &given);
+    struct bytes chunk = chunk_of((struct fields){wrong ? 0x80 : 5, "", 3, 3, "f"});
+    struct bytes message = message_of(0x35, 1, 9, &chunk), *given = call->bytes == A_MESSAGE ? &message : &chunk;
+    struct lent bytes = {.at = given->at, .len = wrong ? 5 : given->len};
+    struct told told = call->made(
+        table, &(struct given){.peer = wrong ? UINT32_MAX : 1, .request_id = 5, .now_ms = 1000, .bytes = &bytes});
+    check(told.refusal == 0 || (told.value | told.numbers[0] | told.numbers[1] | told.numbers[2]) == 0,
+          "with a refusal all else is 0", call->name);
+    return told.refusal;
 }
 
 /* A slice one element short, or NULL: 30 where the call is lent it, and nothing otherwise. */

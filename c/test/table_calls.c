@@ -327,69 +327,6 @@ static void test_most_chunks(bool gap)
     table_free(&table);
 }
 
-/* An answer's refusal. With a refusal every other field must be 0. */
-static uint8_t only_refusal(uint8_t refusal, uint8_t value, uint64_t rest)
-{
-    check(refusal == 0 || (value == 0 && rest == 0), "with a refusal all else is 0", "a call on a table");
-    return refusal;
-}
-
-static uint8_t of_answer(midici_pe_answer answer) { return only_refusal(answer.refusal, answer.value, answer.count); }
-
-static uint8_t of_fed(midici_pe_fed answer)
-{
-    return only_refusal(answer.refusal, answer.value, answer.whole | answer.header_len | answer.body_len);
-}
-
-static uint8_t of_stats(midici_pe_stats answer)
-{
-    return only_refusal(answer.refusal, answer.value, answer.reserved_bytes | answer.active_bytes | answer.active_slots);
-}
-
-static uint8_t call_new(struct table *t, const struct given *g) { return (void)g, of_answer(table_new(t)); }
-
-static uint8_t call_feed(struct table *t, const struct given *g)
-{
-    return of_fed(table_feed(t, g->peer, g->chunk.at, g->chunk.len, 1000));
-}
-
-static uint8_t call_message(struct table *t, const struct given *g)
-{
-    return of_fed(table_feed_message(t, g->message.at, g->message.len, 1000));
-}
-
-static uint8_t call_cancel(struct table *t, const struct given *g) { return of_answer(table_cancel(t, g->peer, 5)); }
-
-static uint8_t call_drop(struct table *t, const struct given *g) { return of_answer(table_drop_peer(t, g->peer)); }
-
-static uint8_t call_poll(struct table *t, const struct given *g) { return (void)g, of_answer(table_poll(t, 9000)); }
-
-static uint8_t call_open(struct table *t, const struct given *g) { return (void)g, of_answer(table_open_list(t)); }
-
-static uint8_t call_stats(struct table *t, const struct given *g) { return (void)g, of_stats(table_memory_stats(t)); }
-
-static uint8_t call_reserved(struct table *t, const struct given *g) { return (void)g, of_answer(table_reserved_bytes(t)); }
-
-/* A row for each call. */
-enum {
-    ROOMS = 1 << NUMBERS | 1 << INDEX | 1 << HEADERS | 1 << ARENAS,
-    WHOLE = ROOMS | 1 << OUT_HEADER | 1 << OUT_BODY,
-    COLUMNS = 1 << NUMBERS | 1 << OUT_PEERS | 1 << OUT_REQUEST_IDS
-};
-
-const struct call calls[] = {
-    {"new", call_new, ROOMS, 0, 0},
-    {"feed", call_feed, WHOLE, 7, 28},
-    {"feed_message", call_message, WHOLE, 7, 21},
-    {"cancel", call_cancel, 1 << NUMBERS, 0, 28},
-    {"drop_peer", call_drop, 1 << NUMBERS, 0, 28},
-    {"poll", call_poll, COLUMNS, 0, 0},
-    {"open_list", call_open, COLUMNS | 1 << OUT_CHUNKS_HELD, 0, 0},
-    {"memory_stats", call_stats, 1 << NUMBERS, 0, 0},
-    {"reserved_bytes", call_reserved, 0, 0, 0},
-    {NULL, NULL, 0, 0, 0},
-};
-
 void test_table_calls(void)
 {
     test_new();
