@@ -142,10 +142,9 @@ fn reach_slot(
 ) -> Fed
     requires { ⌜ hasAll shape (memory (now numbers) (now index) (now headers) (now arenas) (now «out_header») (now «out_body»)) ≡ true ⌝ }
     requires { ⌜ (p < shape .«max_peers») × (s < 4) × (readFields (now «data») ≡ granted (fieldsOf f)) ⌝ }
-    ensures { λ r. ⌜ feedLeft (fedTold r)
-        (memory (now (numbers .exit)) (now (index .exit)) (now (headers .exit)) (now (arenas .exit)) (now («out_header» .exit)) (now («out_body» .exit)))
-        ≡ slotFed shape
-        (memory (now (numbers .entry)) (now (index .entry)) (now (headers .entry)) (now (arenas .entry)) (now («out_header» .entry)) (now («out_body» .entry)))
+    ensures { λ r. ⌜ feedLeft (fedTold r) (memory (now (numbers .exit)) (now (index .exit)) (now (headers .exit)) (now (arenas .exit))
+        (now («out_header» .exit)) (now («out_body» .exit))) ≡ slotFed shape (memory (now (numbers .entry)) (now (index .entry))
+        (now (headers .entry)) (now (arenas .entry)) (now («out_header» .entry)) (now («out_body» .entry)))
         p s (chunkOf (now («data» .entry)) (fieldsOf f)) (moment .«now_ms») (moment .tick) ⌝ }
 {
     let at = slot_at(p, s);
@@ -187,10 +186,9 @@ fn at_table(
 ) -> Fed
     requires { ⌜ hasAll shape (memory (now numbers) (now index) (now headers) (now arenas) (now «out_header») (now «out_body»)) ≡ true ⌝ }
     requires { ⌜ readFields (now «data») ≡ granted (fieldsOf f) ⌝ }
-    ensures { λ r. ⌜ feedLeft (fedTold r)
-        (memory (now (numbers .exit)) (now (index .exit)) (now (headers .exit)) (now (arenas .exit)) (now («out_header» .exit)) (now («out_body» .exit)))
-        ≡ atTable shape
-        (memory (now (numbers .entry)) (now (index .entry)) (now (headers .entry)) (now (arenas .entry)) (now («out_header» .entry)) (now («out_body» .entry)))
+    ensures { λ r. ⌜ feedLeft (fedTold r) (memory (now (numbers .exit)) (now (index .exit)) (now (headers .exit)) (now (arenas .exit))
+        (now («out_header» .exit)) (now («out_body» .exit))) ≡ atTable shape (memory (now (numbers .entry)) (now (index .entry))
+        (now (headers .entry)) (now (arenas .entry)) (now («out_header» .entry)) (now («out_body» .entry)))
         peer (chunkOf (now («data» .entry)) (fieldsOf f)) «now_ms» ⌝ }
 {
     let Place::At(p) = record_for(shape, numbers, peer) else {
@@ -243,11 +241,9 @@ pub fn feed(
     out_header: &mut [u8],
     out_body: &mut [u8],
 ) -> Fed
-    ensures { λ r. ⌜ feedLeft (fedTold r)
-        (memory (now (numbers .exit)) (now (index .exit)) (now (headers .exit)) (now (arenas .exit)) (now («out_header» .exit)) (now («out_body» .exit)))
-        ≡ feedCall shape
-        (memory (now (numbers .entry)) (now (index .entry)) (now (headers .entry)) (now (arenas .entry)) (now («out_header» .entry)) (now («out_body» .entry)))
-        peer (now («raw_chunk» .entry)) «now_ms» ⌝ }
+    ensures { λ r. ⌜ feedLeft (fedTold r) (memory (now (numbers .exit)) (now (index .exit)) (now (headers .exit)) (now (arenas .exit))
+        (now («out_header» .exit)) (now («out_body» .exit))) ≡ feedCall shape (memory (now (numbers .entry)) (now (index .entry))
+        (now (headers .entry)) (now (arenas .entry)) (now («out_header» .entry)) (now («out_body» .entry))) peer (now («raw_chunk» .entry)) «now_ms» ⌝ }
 {
     if !has_all(shape, numbers, index, headers, arenas, out_header, out_body) {
         return Fed::Refused(PeError::BadShape);
@@ -297,11 +293,9 @@ pub fn feed_message(
     out_header: &mut [u8],
     out_body: &mut [u8],
 ) -> Fed
-    ensures { λ r. ⌜ feedLeft (fedTold r)
-        (memory (now (numbers .exit)) (now (index .exit)) (now (headers .exit)) (now (arenas .exit)) (now («out_header» .exit)) (now («out_body» .exit)))
-        ≡ messageCall shape
-        (memory (now (numbers .entry)) (now (index .entry)) (now (headers .entry)) (now (arenas .entry)) (now («out_header» .entry)) (now («out_body» .entry)))
-        (now (body .entry)) «now_ms» ⌝ }
+    ensures { λ r. ⌜ feedLeft (fedTold r) (memory (now (numbers .exit)) (now (index .exit)) (now (headers .exit)) (now (arenas .exit))
+        (now («out_header» .exit)) (now («out_body» .exit))) ≡ messageCall shape (memory (now (numbers .entry)) (now (index .entry))
+        (now (headers .entry)) (now (arenas .entry)) (now («out_header» .entry)) (now («out_body» .entry))) (now (body .entry)) «now_ms» ⌝ }
 {
     if !has_all(shape, numbers, index, headers, arenas, out_header, out_body) {
         return Fed::Refused(PeError::BadShape);
