@@ -10,6 +10,7 @@ use borrow.Author.Tests.{eqb-true}
 use lib.Dec.{eqb}
 use lib.ListN.{length, getD, take, drop}
 use lib.Seq.{length-take-le, getD-take, getD-drop}
+use Rattle.pe_slot.specs.Layout.{slotWords}
 use Rattle.pe_slot.specs.Slot.{Slot, bodyLen}
 use Rattle.pe_slot.specs.Memory.{slotOf, contents, isSound}
 use Rattle.pe_slot.proofs.FeedTheorems.{sound-told}
@@ -26,8 +27,8 @@ use Rattle.pe_run.specs.Run.{Table, lent, LongFor}
 use Rattle.pe_run.proofs.Value.{cellOf, cellAt, cellOpen}
 
 -- ---- the open entry
-word-at : (numbers : List ℕ) (p s i : ℕ) → i < 9 → getD (wordsPart numbers p s) i 0 ≡ getD numbers (slotAt p s + i) 0
-word-at numbers p s i h = getD-take 9 (drop (slotAt p s) numbers) i 0 h ∙ getD-drop (slotAt p s) numbers i 0
+word-at : (numbers : List ℕ) (p s i : ℕ) → i < slotWords → getD (wordsPart numbers p s) i 0 ≡ getD numbers (slotAt p s + i) 0
+word-at numbers p s i h = getD-take slotWords (drop (slotAt p s) numbers) i 0 h ∙ getD-drop (slotAt p s) numbers i 0
 
 abbrev pub peerIn : Table → ℕ → ℕ
 peerIn t p = getD (t .numbers) (peerAt p + 1) 0

@@ -8,6 +8,7 @@ use mathlib.Core.Path.{_≡_, refl, sym, ap, ap₂, _∙_}
 use native.Mathlib.Omega.{arith}
 use lib.Dec.{eqb}
 use lib.ListN.{getD}
+use Rattle.pe_slot.specs.Layout.{slotWords, requestIdAt}
 use Rattle.pe_reassembler.specs.Table.{slotAt, isBound, boundTo, isActive, isIdle as idleAt, hasId as idAt, orElse, recordOf, recordFor, slotOpen, slotFor}
 use Rattle.pe_reassembler.proofs.PlaceLaws.{get-part}
 use Rattle.pe_reassembler.proofs.EffectsClose.{active-of}
@@ -41,7 +42,7 @@ module _ (shape : Shape) (t : Table) where
 
   pub id-at : (p s : ℕ) → cellAt shape t p s .request-id ≡ getD (t .numbers) (slotAt p s + 1) 0
   unfolding cellAt cellOf
-  id-at p s = get-part (slotAt p s) 9 1 (t .numbers) (omega arith)
+  id-at p s = get-part (slotAt p s) slotWords requestIdAt (t .numbers) (omega arith)
 
   has-id-is : (request-id p s : ℕ) → idAt (t .numbers) request-id p s ≡ hasId request-id (cellAt shape t p s)
   unfolding idAt

@@ -9,6 +9,7 @@ use native.Mathlib.Omega.{arith}
 use lib.Dec.{leb, eqb}
 use lib.ListN.{getD}
 use Rattle.seven_bit.specs.Reply.{refused}
+use Rattle.pe_slot.specs.Layout.{slotWords, lastActivityAt}
 use Rattle.pe_slot.specs.Memory.{slotOf, contents}
 use Rattle.pe_reassembler.specs.Table.{slotAt}
 use Rattle.pe_reassembler.specs.Poll.{Polled, polled as polledInto, isDue, closeDue, pollCall}
@@ -37,7 +38,7 @@ late-is words index header arena now-ms = go (eqb (getD words 0 0) 0) (record { 
 pub due-is : (shape : Shape) (t : Table) (now-ms p s : ℕ) → isDue (t .numbers) now-ms p s ≡ lateState now-ms (cellAt shape t p s .state)
 unfolding isDue cellAt
 due-is shape t now-ms p s =
-    ap₂ (λ (b : Bool) (x : ℕ). b && leb 3000 (now-ms - x)) (active-of (t .numbers) p s) (sym (get-part (slotAt p s) 9 2 (t .numbers) (omega arith)))
+    ap₂ (λ (b : Bool) (x : ℕ). b && leb 3000 (now-ms - x)) (active-of (t .numbers) p s) (sym (get-part (slotAt p s) slotWords lastActivityAt (t .numbers) (omega arith)))
     ∙ late-is _ _ _ _ now-ms
 
 pub record PollValue (shape : Shape) (t : Table) (now-ms : ℕ) (r : Polled) : Type 0 where

@@ -12,6 +12,7 @@ use lib.ListN.{length, getD, take}
 use Rattle.seven_bit.proofs.ReplyLaws.{both, and-told}
 use Rattle.pe_frame.specs.Chunk.{Chunk}
 use Rattle.pe_slot.specs.declared.layout.TxSlot.{TxSlot}
+use Rattle.pe_slot.specs.Layout.{slotWords}
 use Rattle.pe_slot.specs.Slot.{Slot, Verdict, judge, slotAfter}
 use Rattle.pe_slot.specs.Memory.{slotOf, wordsOf, piecesOf, contents, endsAt, isEnd, isSound}
 use Rattle.pe_slot.specs.Feed.{SlotLeft, touched, grown, closedSlot, toldAnswer, outHeader, outBody, placed, reachedSlot}
@@ -52,7 +53,7 @@ touched-sound H B R t index request-id now-ms tick e =
 
 -- the lengths of a slot's parts
 pub record Sized (shape : Shape) (words index header arena : List ℕ) : Type 0 where
-  pub words-size : length words ≡ 9
+  pub words-size : length words ≡ slotWords
   pub index-size : length index ≡ shape .«fragment_records»
   pub header-size : length header ≡ shape .«header_bytes»
   pub arena-size : length arena ≡ shape .«tx_bytes»
