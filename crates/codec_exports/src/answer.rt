@@ -30,7 +30,7 @@ ghost use Rattle.pe_wire.specs.Wire.{u14Told};
 ghost use Rattle.pe_frame.specs.Chunk.{chunkTold};
 ghost use Rattle.pe_chunker.specs.Cut.{capacityTold};
 ghost use Rattle.hub.specs.Answers.{answerOf};
-ghost use Rattle.codec_exports.specs.Answers.{headerIn, headerOut, headerAnswer, headerAnswerOf, capsOut, capsAnswer, capsAnswerOf};
+ghost use Rattle.codec_exports.specs.Answers.{headerIn, headerOut, headerAnswerOf, capsOut, capsAnswerOf};
 ghost use Rattle.codec_exports.specs.Answers.{messageAnswerOf, chunkAnswerOf, kindAnswerOf, generatedAnswerOf};
 
 #[repr(C)]
@@ -206,22 +206,20 @@ fn header_out(h: CiHeader) -> HeaderFields
     }
 }
 
-fn header_answer(refusal: u8, value: u8, header: HeaderFields) -> HeaderAnswer
-    ensures { λ r. ⌜ r ≡ headerAnswer refusal value header ⌝ }
-{
-    HeaderAnswer {
-        refusal,
-        value,
-        header,
-    }
-}
-
 pub(crate) fn header_read(a: HeaderRead) -> HeaderAnswer
     ensures { λ r. ⌜ r ≡ headerAnswerOf (headerTold a) ⌝ }
 {
     match a {
-        HeaderRead::Value(h) => header_answer(0, 0, header_out(h)),
-        HeaderRead::Refused(e) => header_answer(e.number(), e.value(), NO_HEADER),
+        HeaderRead::Value(h) => HeaderAnswer {
+            refusal: 0,
+            value: 0,
+            header: header_out(h),
+        },
+        HeaderRead::Refused(e) => HeaderAnswer {
+            refusal: e.number(),
+            value: e.value(),
+            header: NO_HEADER,
+        },
     }
 }
 
@@ -236,22 +234,20 @@ fn caps_out(c: PeCapabilities) -> CapsFields
     }
 }
 
-fn caps_answer(refusal: u8, value: u8, caps: CapsFields) -> CapsAnswer
-    ensures { λ r. ⌜ r ≡ capsAnswer refusal value caps ⌝ }
-{
-    CapsAnswer {
-        refusal,
-        value,
-        caps,
-    }
-}
-
 pub(crate) fn caps_read(a: CapsRead) -> CapsAnswer
     ensures { λ r. ⌜ r ≡ capsAnswerOf (capsTold a) ⌝ }
 {
     match a {
-        CapsRead::Value(c) => caps_answer(0, 0, caps_out(c)),
-        CapsRead::Refused(e) => caps_answer(e.number(), e.value(), NO_CAPS),
+        CapsRead::Value(c) => CapsAnswer {
+            refusal: 0,
+            value: 0,
+            caps: caps_out(c),
+        },
+        CapsRead::Refused(e) => CapsAnswer {
+            refusal: e.number(),
+            value: e.value(),
+            caps: NO_CAPS,
+        },
     }
 }
 

@@ -12,7 +12,7 @@ ghost use Rattle.seven_bit.specs.Reply.{andThen, writing};
 ghost use Rattle.pe_wire.specs.Wire.{readU14, writeU14};
 ghost use Rattle.pe_mcoded7.specs.Mcoded7.{readMcoded7, writeMcoded7};
 ghost use Rattle.pe_controller.specs.Controller.{negotiated};
-ghost use Rattle.pe_frame.specs.Chunk.{readFields, chunkOf, chunkFrom};
+ghost use Rattle.pe_frame.specs.Chunk.{readFields, readChunk, chunkFrom};
 ghost use Rattle.pe_frame.specs.Write.{writeChunk};
 ghost use Rattle.pe_chunker.specs.Cut.{clamped, budget, askFirst, laterCapacity};
 ghost use Rattle.hub.specs.Answers.{answerOf, written, writtenOf};
@@ -90,8 +90,7 @@ pub extern "C" fn codec_encode_chunk(
 #[no_mangle]
 pub extern "C" fn codec_rewrite(bytes: &[u8], out: &mut [u8]) -> Answer
     ensures { λ r. ⌜ written r (now (out .exit))
-        ≡ writtenOf (writing (andThen (readFields (now (bytes .entry)))
-        (λ f. writeChunk (chunkOf (now (bytes .entry)) f) (length (now (out .entry))))) (now (out .entry))) ⌝ }
+        ≡ writtenOf (writing (andThen (readChunk (now (bytes .entry))) (λ c. writeChunk c (length (now (out .entry))))) (now (out .entry))) ⌝ }
 {
     pe_encoded(pe_frame::chunk_ref::rewrite(bytes, out))
 }

@@ -11,7 +11,7 @@ use Rattle.seven_bit.specs.Reply.{granted, refused}
 use Rattle.seven_bit.specs.SevenBit.{isSevenBit, numberOf, bytesOf}
 use Rattle.midici_core.specs.Muid.{readMuid}
 use Rattle.pe_wire.specs.Wire.{readU14, writeU14}
-use Rattle.pe_frame.specs.Chunk.{readFields}
+use Rattle.pe_frame.specs.Chunk.{readFields, readChunk}
 use Rattle.pe_frame.specs.Write.{chunkBytes}
 use Rattle.pe_chunker.specs.Cut.{clamped, budget, laterCapacity, firstCapacity, askFirst, bodyPieces, chunkAt, cutCount}
 use Rattle.pe_chunker.proofs.AskLaws.{cut-wide, cut-asked}
@@ -20,7 +20,7 @@ use Rattle.pe_chunker.proofs.CutLaws.{budget-between}
 use Rattle.pe_chunker.proofs.Theorems.{property-length, budget-is-room, chunk-reads-back}
 use Rattle.pe_mcoded7.specs.Mcoded7.{readMcoded7, askGroups, askGroup, groups, decoded, groupData, restored}
 use Rattle.pe_controller.specs.Controller.{stepped}
-use Rattle.examples.specs.Examples.{readChunk, carriedFrom, carried, Holds, AllHold, examples}
+use Rattle.examples.specs.Examples.{carriedFrom, carried, Holds, AllHold, examples}
 
 -- a cut of lengths that are known, whose header fits
 record Sized (id : ℕ) (header body : List ℕ) (limit h b m count : ℕ) : Type 0 where
@@ -46,7 +46,7 @@ module _ (id : ℕ) (header body : List ℕ) (limit h b m count : ℕ) (z : Size
   -- the property of chunk k, read back, and what follows it
   next-carried : (n k size : ℕ) (lengths : List ℕ) → 1 ≤ k → k ≤ count → min (k * m - h) b - min ((k - 1) * m - h) b ≡ size
       → carriedFrom id header body limit n (k + 1) ≡ granted lengths → carriedFrom id header body limit (suc n) k ≡ granted (size ∷ lengths)
-  unfolding carriedFrom readChunk
+  unfolding carriedFrom
   next-carried n k size lengths one l e q =
       let w = budget-is-room id header body limit count k 4096 count-granted one l (let t = budget-between limit in omega arith) in
       let r = chunk-reads-back id header body limit k 4096 _ w in
@@ -100,7 +100,7 @@ too-wide id header body i s eh eb =
 
 -- All marked examples hold.
 pub examples-hold : AllHold examples
-unfolding Holds AllHold examples readChunk readFields clamped budget laterCapacity firstCapacity askFirst readU14 writeU14 readMuid readMcoded7 askGroups askGroup groups decoded groupData restored pieces joined isSevenBit numberOf bytesOf stepped
+unfolding Holds AllHold examples readFields clamped budget laterCapacity firstCapacity askFirst readU14 writeU14 readMuid readMcoded7 askGroups askGroup groups decoded groupData restored pieces joined isSevenBit numberOf bytesOf stepped
 examples-hold =
     let from-16 : AllHold (drop 16 examples) = (refl, (refl, (refl, tt))) in
     let from-11 : AllHold (drop 11 examples) = (refl, (refl, (none-in-the-first, (too-wide, (five-chunks, from-16))))) in

@@ -9,7 +9,7 @@ use Rattle.seven_bit.specs.Reply.{Reply, granted, refused, andThen}
 use Rattle.seven_bit.specs.SevenBit.{isSevenBit}
 use Rattle.midici_core.specs.Muid.{readMuid}
 use Rattle.pe_wire.specs.Wire.{readU14, writeU14}
-use Rattle.pe_frame.specs.Chunk.{Chunk, chunkFrom, readFields, chunkOf}
+use Rattle.pe_frame.specs.Chunk.{Chunk, chunkFrom, readChunk}
 use Rattle.pe_chunker.specs.Cut.{laterCapacity, askFirst, cutCount, cutChunk}
 use Rattle.pe_mcoded7.specs.Mcoded7.{readMcoded7}
 use Rattle.pe_controller.specs.Controller.{stepped}
@@ -25,10 +25,6 @@ pub data Example : Type 0 where
   muid-reads : List ℕ → Reply ℕ → Example
   mcoded7-reads : List ℕ → Reply (List ℕ) → Example
   counter-steps : ℕ → ℕ → Example
-
--- The chunk that stands in the bytes, as it is read.
-unfoldable pub readChunk : List ℕ → Reply Chunk
-readChunk s = andThen (readFields s) (λ f. granted (chunkOf s f))
 
 -- How many property bytes are read from chunk k of a cut and from those after it, n of them, each as it is written into 4,096 bytes.
 unfoldable pub carriedFrom : ℕ → List ℕ → List ℕ → ℕ → ℕ → ℕ → Reply (List ℕ)

@@ -16,13 +16,14 @@ chunk-of r = r .chunk
 
 -- it was read: what follows goes on with the chunk
 pub read-then : {A : Type 0} (s : List ℕ) (c : Chunk) (r : Reply Fields) (next : Chunk → Reply A) →
-    record { reply = granted tt; chunk = c } ≡ refOf s r → next c ≡ andThen r (λ (f : Fields). next (chunkOf s f))
+    record { reply = granted tt; chunk = c } ≡ refOf s r → next c ≡ andThen (andThen r (λ (f : Fields). granted (chunkOf s f))) next
 read-then s c (granted f) next e = ap next (ap chunk-of e)
 read-then s c (refused number value) next e = absurd (refused-not number value tt (sym (ap reply-of e)))
 
 -- it was refused: so is all that follows
-pub refused-then : {A : Type 0} (s : List ℕ) (c : Chunk) (r : Reply Fields) (next : Fields → Reply A) (number value : ℕ) →
-    record { reply = refused number value; chunk = c } ≡ refOf s r → refused number value ≡ andThen r next
+pub refused-then : {A : Type 0} (s : List ℕ) (c : Chunk) (r : Reply Fields) (next : Chunk → Reply A) (number value : ℕ) →
+    record { reply = refused number value; chunk = c } ≡ refOf s r
+    → refused number value ≡ andThen (andThen r (λ (f : Fields). granted (chunkOf s f))) next
 refused-then s c (granted f) next number value e = absurd (refused-not number value tt (ap reply-of e))
 refused-then {A} s c (refused n v) next number value e = ap kept (ap reply-of e)
   where

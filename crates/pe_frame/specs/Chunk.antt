@@ -70,6 +70,10 @@ chunkOf s f = record {
   property = part (f .property-at) (f .property-len) s;
 }
 
+-- and as it is read.
+abbrev pub readChunk : List ℕ → Reply Chunk
+readChunk s = andThen (readFields s) (λ f. granted (chunkOf s f))
+
 -- The fields that a chunk has where its bytes stand.
 abbrev pub fields : Chunk → Fields
 fields c = record {

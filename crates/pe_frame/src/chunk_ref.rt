@@ -10,7 +10,7 @@ ghost use lib.ListN.{length};
 ghost use Rattle.seven_bit.specs.Parts.{part};
 ghost use Rattle.seven_bit.specs.Reply.{andThen, outcome, writing};
 ghost use Rattle.pe_wire.specs.Wire.{encodedTold};
-ghost use Rattle.pe_frame.specs.Chunk.{readFields, chunkOf, chunkFrom, fieldsOf};
+ghost use Rattle.pe_frame.specs.Chunk.{readChunk, chunkOf, chunkFrom, fieldsOf};
 ghost use Rattle.pe_frame.specs.ChunkRef.{chunkIn, refTold, refWith, readRef};
 ghost use Rattle.pe_frame.specs.Write.{writeChunk};
 
@@ -139,8 +139,7 @@ pub fn encode_ref<'a, 'b>(chunk: PeChunkRef<'a>, out: &'b mut [u8]) -> Encoded
 // Reads a chunk and writes it again: with plain parameters, so that no caller needs to know the struct.
 pub fn rewrite(data: &[u8], out: &mut [u8]) -> Encoded
     ensures { λ r. ⌜ outcome (encodedTold r) (now (out .exit))
-        ≡ writing (andThen (readFields (now («data» .entry)))
-        (λ f. writeChunk (chunkOf (now («data» .entry)) f) (length (now (out .entry))))) (now (out .entry)) ⌝ }
+        ≡ writing (andThen (readChunk (now («data» .entry))) (λ c. writeChunk c (length (now (out .entry))))) (now (out .entry)) ⌝ }
 {
     let read = PeChunkRef::decode(data);
     match read.answer {

@@ -32,7 +32,7 @@ use Rattle.pe_slot.specs.Feed.{Told, toldAnswer, SlotLeft, slotLeft, placed, is
 use Rattle.pe_slot.specs.Layout.{slotWords}
 use Rattle.pe_reassembler.specs.declared.shape.Shape.{Shape}
 use Rattle.pe_reassembler.specs.Table.{hasNumbers, hasRooms, isBound, boundTo, peerAt, slotAt, roomAt, roomsLen, recordFor, peerWords, HasPeer}
-use Rattle.pe_reassembler.specs.Feed.{Memory, memory, FeedLeft, feedLeft, nextTick, bind, hasAll, lifted, reach, wordsPart, roomPart}
+use Rattle.pe_reassembler.specs.Feed.{Memory, memory, FeedLeft, feedLeft, nextTick, bind, hasAll, lifted, slotReached, reach, wordsPart, roomPart}
 use Rattle.pe_reassembler.specs.Steps.{isDamaged, noted, inPlace, slotFed}
 use Rattle.pe_reassembler.proofs.TableClose.{part-lent, part-back}
 use Rattle.pe_reassembler.proofs.TableLaws.{Ranges, in-range, numbers-long, record-for-below}
@@ -176,7 +176,7 @@ module _ (words index header arena : List ℕ) (c : Chunk) (now-ms tick : ℕ) (
   unfolding feedSlot
   damaged n = rw (h, n)
 
-  pub fed-reached : isSound (length header) (length arena) (length index) (slotOf words) index ≡ true → length (c .property) ≤ 16383
+  fed-reached : isSound (length header) (length arena) (length index) (slotOf words) index ≡ true → length (c .property) ≤ 16383
       → feedSlot words index header arena c now-ms tick out-header out-body ≡ reachedSlot words index header arena c now-ms tick out-header out-body
   unfolding feedSlot
   fed-reached y l = rw (h, y, le-leb _ _ l)
@@ -238,7 +238,7 @@ module _ (shape : Shape) (m : Memory) (peer : ℕ) (c : Chunk) (now-ms p s : ℕ
   tick = nextTick (getD (m .numbers) 0 0)
 
   abbrev slot-reached : SlotLeft
-  slot-reached = reachedSlot words records header arena c now-ms tick (m .out-header) (m .out-body)
+  slot-reached = slotReached shape m c now-ms p s
 
   undamaged : isDamaged (slot-reached .answer) ≡ false
   unfolding placed
@@ -249,6 +249,10 @@ module _ (shape : Shape) (m : Memory) (peer : ℕ) (c : Chunk) (now-ms p s : ℕ
 
   same-sound : isSound (length header) (length arena) (length records) (slotOf words) records ≡ soundness
   same-sound = rw (header-len, arena-len, records-len)
+
+  pub slot-fed : soundness ≡ true → length (c .property) ≤ 16383
+      → feedSlot words records header arena c now-ms tick (m .out-header) (m .out-body) ≡ slot-reached
+  slot-fed y h = fed-reached words records header arena c now-ms tick (m .out-header) (m .out-body) is-shaped (same-sound ∙ y) h
 
   reached-damaged : soundness ≡ false → noting tick peer p (slotFed shape m p s c now-ms tick) ≡ reach shape m peer c now-ms p s
   unfolding reach
@@ -266,7 +270,7 @@ module _ (shape : Shape) (m : Memory) (peer : ℕ) (c : Chunk) (now-ms p s : ℕ
   unfolding reach lifted
   reached-sound y h =
       let r = record-long in
-      ap (λ (a : SlotLeft). noting tick peer p (inPlace shape m p s a)) (fed-reached words records header arena c now-ms tick (m .out-header) (m .out-body) is-shaped (same-sound ∙ y) h)
+      ap (λ (a : SlotLeft). noting tick peer p (inPlace shape m p s a)) (slot-fed y h)
       ∙ rw (y, undamaged, noted-splice (slot-reached .words) peer p s (m .numbers) tick (r .1) l)
 
   pub reached : length (c .property) ≤ 16383 → noting tick peer p (slotFed shape m p s c now-ms tick) ≡ reach shape m peer c now-ms p s

@@ -8,7 +8,7 @@ use mathlib.Core.Path.{_≡_, refl, sym, _∙_}
 use native.Mathlib.Omega.{arith}
 use borrow.Author.Tests.{eq-eqb}
 use lib.Dec.{eqb}
-use lib.ListN.{length, length-set}
+use lib.ListN.{length, getD, length-set}
 use Rattle.seven_bit.proofs.PartLaws.{length-part, length-splice}
 use Rattle.pe_frame.specs.Chunk.{Chunk}
 use Rattle.pe_slot.specs.declared.layout.TxSlot.{TxSlot}
@@ -20,7 +20,7 @@ use Rattle.pe_slot.proofs.FeedTheorems.{Sound, sound-told, opened}
 use Rattle.pe_slot.proofs.JudgeLaws.{Fitting, judge-fitting}
 use Rattle.pe_slot.specs.Layout.{slotWords}
 use Rattle.pe_reassembler.specs.declared.shape.Shape.{Shape}
-use Rattle.pe_reassembler.specs.Feed.{Memory, wordsPart, roomPart}
+use Rattle.pe_reassembler.specs.Feed.{Memory, nextTick, wordsPart, roomPart, slotReached}
 use Rattle.pe_reassembler.specs.Table.{hasRooms, slotAt, roomAt}
 use Rattle.pe_reassembler.proofs.Effects.{Sized, Roomy, rooms-told}
 use Rattle.pe_reassembler.proofs.FeedLaws.{room-in}
@@ -132,11 +132,10 @@ module _ (shape : Shape) (m : Memory) (p s : ℕ) (h : hasRooms shape (m .number
   sound-rooms t records = rw (header-length, arena-length, records-length)
 
   -- what a chunk left fits in its place
-  pub reached-sized : (c : Chunk) (now-ms tick : ℕ) (out-header out-body : List ℕ)
+  pub reached-sized : (c : Chunk) (now-ms : ℕ)
       → isSound (shape .«header_bytes») (shape .«tx_bytes») (shape .«fragment_records») (slotOf (wordsPart (m .numbers) p s)) (roomPart (shape .«fragment_records») (m .index) p s) ≡ true
-      → Sized shape (reachedSlot (wordsPart (m .numbers) p s) (roomPart (shape .«fragment_records») (m .index) p s) (roomPart (shape .«header_bytes») (m .headers) p s)
-      (roomPart (shape .«tx_bytes») (m .arenas) p s) c now-ms tick out-header out-body)
-  reached-sized c now-ms tick out-header out-body q =
+      → Sized shape (slotReached shape m c now-ms p s)
+  reached-sized c now-ms q =
       let f = reached-lengths (wordsPart (m .numbers) p s) (roomPart (shape .«fragment_records») (m .index) p s) (roomPart (shape .«header_bytes») (m .headers) p s)
-      (roomPart (shape .«tx_bytes») (m .arenas) p s) c now-ms tick out-header out-body (sound-rooms (slotOf (wordsPart (m .numbers) p s)) (roomPart (shape .«fragment_records») (m .index) p s) ∙ q) in
+      (roomPart (shape .«tx_bytes») (m .arenas) p s) c now-ms (nextTick (getD (m .numbers) 0 0)) (m .out-header) (m .out-body) (sound-rooms (slotOf (wordsPart (m .numbers) p s)) (roomPart (shape .«fragment_records») (m .index) p s) ∙ q) in
       record { nine = f .nine; records = f .records ∙ records-length; header-bytes = f .header-bytes ∙ header-length; tx-bytes = f .tx-bytes ∙ arena-length }

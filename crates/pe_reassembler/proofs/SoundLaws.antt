@@ -18,18 +18,18 @@ use Rattle.pe_frame.specs.Chunk.{Chunk, Fields, readFields, chunkOf}
 use Rattle.pe_frame.proofs.RoundTrip.{read-told, read-in-range}
 use Rattle.pe_wire.proofs.RoundTrip.{read-small}
 use Rattle.pe_slot.specs.Memory.{slotOf, wordsOf, endsAt, isSound}
-use Rattle.pe_slot.specs.Feed.{SlotLeft, closedSlot, reachedSlot}
+use Rattle.pe_slot.specs.Feed.{SlotLeft, closedSlot}
 use Rattle.pe_slot.proofs.FeedTheorems.{sound-again}
 use Rattle.pe_slot.specs.Layout.{slotWords}
 use Rattle.pe_reassembler.specs.declared.shape.Shape.{Shape}
 use Rattle.pe_reassembler.specs.Calls.{onRecord, newCall, closeAt, cancelIn, cancelAt, cancelCall, dropAt, dropCall}
-use Rattle.pe_reassembler.specs.Feed.{Memory, nextTick, wordsPart, roomPart, lifted, reach, inSlot, inRecord, atTable, chunkRead, hasAll, feedCall, messageRead, messageCall}
+use Rattle.pe_reassembler.specs.Feed.{Memory, wordsPart, roomPart, slotReached, lifted, reach, inSlot, inRecord, atTable, chunkRead, hasAll, feedCall, messageRead, messageCall}
 use Rattle.pe_reassembler.specs.Poll.{isDue, closeDue, pollCall}
 use Rattle.pe_reassembler.specs.Table.{numbersLen, hasNumbers, hasRooms, isActive, isMuid, recordOf, recordFor, slotOpen, slotFor}
 use Rattle.pe_reassembler.proofs.Effects.{Sized, lifted-words, lifted-words-other, lifted-index, lifted-index-other}
 use Rattle.pe_reassembler.proofs.EffectsClose.{close-words, close-words-other, due-words, drop-words, drop-words-other}
 use Rattle.pe_reassembler.proofs.EffectsNew.{new-words}
-use Rattle.pe_reassembler.proofs.FeedLaws.{is-shaped, fed-reached}
+use Rattle.pe_reassembler.proofs.FeedLaws.{slot-fed}
 use Rattle.pe_reassembler.proofs.SlotLengths.{Blank, Headed, reached-blank, reached-headed, reached-sized, sound-rooms}
 use Rattle.pe_reassembler.proofs.TableLaws.{numbers-long, record-of-below, record-for-below, slot-open-below, slot-for-below}
 
@@ -172,36 +172,25 @@ module _ (shape : Shape) (m : Memory) (peer now-ms : ℕ) (e : hasAll shape m �
     abbrev records : List ℕ
     records = roomPart (shape .«fragment_records») (m .index) p s
 
-    abbrev header : List ℕ
-    header = roomPart (shape .«header_bytes») (m .headers) p s
-
-    abbrev arena : List ℕ
-    arena = roomPart (shape .«tx_bytes») (m .arenas) p s
-
-    abbrev tick : ℕ
-    tick = nextTick (getD (m .numbers) 0 0)
-
     abbrev slot-reached : SlotLeft
-    slot-reached = reachedSlot words records header arena c now-ms tick (m .out-header) (m .out-body)
+    slot-reached = slotReached shape m c now-ms p s
 
     sized : Sized shape slot-reached
-    sized = reached-sized shape m p s h k l c now-ms tick (m .out-header) (m .out-body) (a .each p s k l .sound)
-
-    sound-before : isSound (length header) (length arena) (length records) (slotOf words) records ≡ true
-    sound-before = sound-rooms shape m p s h k l (slotOf words) records ∙ a .each p s k l .sound
+    sized = reached-sized shape m p s h k l c now-ms (a .each p s k l .sound)
 
     sound-after : isSound (length (slot-reached .header)) (length (slot-reached .arena)) (length (slot-reached .index)) (slotOf (slot-reached .words)) (slot-reached .index) ≡ true
     sound-after =
         subst (λ (x : SlotLeft). isSound (length (x .header)) (length (x .arena)) (length (x .index)) (slotOf (x .words)) (x .index) ≡ true)
-        (fed-reached words records header arena c now-ms tick (m .out-header) (m .out-body) (is-shaped shape m peer c now-ms p s e k l) sound-before short)
-        (sound-again words records header arena c now-ms tick (m .out-header) (m .out-body) named sound-before)
+        (slot-fed shape m peer c now-ms p s e k l (a .each p s k l .sound) short)
+        (sound-again words records _ _ c now-ms _ (m .out-header) (m .out-body) named
+        (sound-rooms shape m p s h k l (slotOf words) records ∙ a .each p s k l .sound))
 
     sound-reached : SlotSound (shape .«header_bytes») (shape .«tx_bytes») (shape .«fragment_records») (slot-reached .words) (slot-reached .index)
     sound-reached =
         record {
           sound = rw (sized .header-bytes, sized .tx-bytes, sized .records) at sound-after;
-          blank = reached-blank words records header arena c now-ms tick (m .out-header) (m .out-body);
-          headed = reached-headed words records header arena c now-ms tick (m .out-header) (m .out-body) (a .each p s k l .headed);
+          blank = reached-blank words records _ _ c now-ms _ (m .out-header) (m .out-body);
+          headed = reached-headed words records _ _ c now-ms _ (m .out-header) (m .out-body) (a .each p s k l .headed);
         }
 
     sound-lifted : SlotsSound shape (lifted shape m peer p s slot-reached .memory .numbers) (lifted shape m peer p s slot-reached .memory .index)

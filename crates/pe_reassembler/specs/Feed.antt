@@ -64,15 +64,19 @@ lifted shape m peer p s a =
     (a .out-header)
     (a .out-body))
 
+-- What a chunk that reaches a slot leaves of it.
+abbrev pub slotReached : Shape → Memory → Chunk → ℕ → ℕ → ℕ → SlotLeft
+slotReached shape m c now-ms p s =
+    reachedSlot (wordsPart (m .numbers) p s) (roomPart (shape .«fragment_records») (m .index) p s)
+    (roomPart (shape .«header_bytes») (m .headers) p s) (roomPart (shape .«tx_bytes») (m .arenas) p s)
+    c now-ms (nextTick (getD (m .numbers) 0 0)) (m .out-header) (m .out-body)
+
 -- Question 31; from there on the slot is touched, and its own questions settle what is left of it.
 unfoldable pub reach : Shape → Memory → ℕ → Chunk → ℕ → ℕ → ℕ → FeedLeft
 reach shape m peer c now-ms p s =
     cond (isSound (shape .«header_bytes») (shape .«tx_bytes») (shape .«fragment_records»)
     (slotOf (wordsPart (m .numbers) p s)) (roomPart (shape .«fragment_records») (m .index) p s))
-    (lifted shape m peer p s
-    (reachedSlot (wordsPart (m .numbers) p s) (roomPart (shape .«fragment_records») (m .index) p s)
-    (roomPart (shape .«header_bytes») (m .headers) p s) (roomPart (shape .«tx_bytes») (m .arenas) p s)
-    c now-ms (nextTick (getD (m .numbers) 0 0)) (m .out-header) (m .out-body)))
+    (lifted shape m peer p s (slotReached shape m c now-ms p s))
     (feedLeft (refused 31 0) m)
 
 -- "Own, unbound or idle record? 7. Transfer open with this id, or a free one? 6."

@@ -132,7 +132,7 @@ fn find_peer(shape: Shape, numbers: &[u64], peer: u32) -> Found
     if !has_numbers(shape, numbers) {
         return Found::Refused(PeError::BadShape);
     }
-    if peer > Muid::BROADCAST_VALUE {
+    if peer > Muid::MASK_28 {
         return Found::Refused(PeError::Ci(CiError::InvalidMuid));
     }
     let Place::At(p) = record_of(shape, numbers, peer) else {

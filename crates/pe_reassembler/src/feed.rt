@@ -248,7 +248,7 @@ pub fn feed(
     if !has_all(shape, numbers, index, headers, arenas, out_header, out_body) {
         return Fed::Refused(PeError::BadShape);
     }
-    if peer > Muid::BROADCAST_VALUE {
+    if peer > Muid::MASK_28 {
         return Fed::Refused(PeError::Ci(CiError::InvalidMuid));
     }
     let read = decode_fields(raw_chunk);

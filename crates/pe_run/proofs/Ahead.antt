@@ -3,14 +3,14 @@
 use Prim.Native.Nat.{ℕ, _+_, _*_, _≤_}
 use mathlib.Core.Bool.{Bool, true, false, cond, _&&_}
 use mathlib.Core.List.{List, [], _++_, map}
-use mathlib.Core.Path.{_≡_, refl, ap, subst}
+use mathlib.Core.Path.{_≡_, refl, ap, subst, _∙_}
 use native.Mathlib.Omega.{arith}
 use borrow.Author.Tests.{le-leb, leb-true}
 use lib.ListN.{length, drop}
 use Rattle.seven_bit.specs.Reply.{Reply, granted, refused, andThen}
 use Rattle.seven_bit.proofs.ReplyLaws.{asked, first-granted, same-grant, and-told}
 use Rattle.midici_core.specs.Message.{Message, readMessage}
-use Rattle.pe_frame.specs.Chunk.{Fields, readFields, chunkOf}
+use Rattle.pe_frame.specs.Chunk.{Chunk, Fields, readFields, chunkOf, readChunk}
 use Rattle.pe_frame.proofs.RoundTrip.{read-in-range}
 use Rattle.pe_reassembler.specs.Table.{inRange, hasNumbers, hasRooms, isMuid}
 use Rattle.pe_reassembler.specs.Feed.{FeedLeft, feedLeft, atTable, chunkRead, hasAll, feedCall, messageRead, messageCall}
@@ -40,7 +40,8 @@ module _ (shape : Shape) (t : Table) (ok : LongFor shape t) where
   module _ (out-header out-body : List ℕ) (now-ms : ℕ) where
     read-ahead : (r : Reply Fields) (peer : ℕ) (bytes : List ℕ)
         → chunkRead r shape (lent t out-header out-body) peer bytes now-ms
-        ≡ reached shape t out-header out-body (andThen r (λ (f : Fields). granted (arrival peer bytes (chunkOf bytes f) now-ms out-header out-body)))
+        ≡ reached shape t out-header out-body
+        (andThen (andThen r (λ (f : Fields). granted (chunkOf bytes f))) (λ (c : Chunk). granted (arrival peer bytes c now-ms out-header out-body)))
     read-ahead (granted f) peer bytes = refl
     read-ahead (refused number value) peer bytes = refl
 
@@ -107,10 +108,12 @@ module _ (shape : Shape) (now-ms : ℕ) (out-header out-body : List ℕ) (a : Ar
   arriving-small : (peer : ℕ) (bytes : List ℕ) → hasOutputs shape out-header out-body ≡ true → arriving peer bytes now-ms out-header out-body ≡ granted a
       → Small shape out-header out-body a
   arriving-small peer bytes o q =
-      let f = first-granted (readFields bytes) _ a q in
+      let c = first-granted (readChunk bytes) _ a q in
+      let f = first-granted (readFields bytes) _ (c .0) (c .1) in
       let r = read-in-range bytes (f .0) (f .1) in
       let e = and-told _ _ o in
-      subst (Small shape out-header out-body) (same-grant _ _ a refl (f .2))
+      let g = ap (λ (k : Reply Chunk). andThen k (λ (x : Chunk). granted (arrival peer bytes x now-ms out-header out-body))) (f .2) ∙ c .2 in
+      subst (Small shape out-header out-body) (same-grant _ _ a refl g)
       (record { header-room = leb-true _ _ (e .0); body-room = leb-true _ _ (e .1); number = r .number; property = r .property-len })
 
   pub fed-small : (peer : ℕ) (chunk : List ℕ) → fedArrival shape peer chunk now-ms out-header out-body ≡ granted a → Small shape out-header out-body a

@@ -11,7 +11,7 @@ use lib.Dec.{eqb}
 use Rattle.seven_bit.specs.Reply.{Reply, granted, refused}
 use Rattle.seven_bit.proofs.ReplyLaws.{asked, first-granted, and-told}
 use Rattle.midici_core.specs.Message.{readMessage}
-use Rattle.pe_frame.specs.Chunk.{Chunk, readFields}
+use Rattle.pe_frame.specs.Chunk.{Chunk, readFields, readChunk}
 use Rattle.pe_reassembler.specs.declared.shape.Shape.{Shape}
 use Rattle.pe_reassembler.specs.Table.{isMuid}
 use Rattle.pe_run.specs.Model.{Model, Act, arrive, cancel as cancelled, drop as dropped, poll as polled, nothing}
@@ -37,8 +37,10 @@ record Arriving (out-header out-body : List ℕ) (a : Arrival) : Type 0 where
 module _ (out-header out-body : List ℕ) (a : Arrival) where
   arriving-told : (peer : ℕ) (bytes : List ℕ) (now-ms : ℕ) → arriving peer bytes now-ms out-header out-body ≡ granted a → Arriving out-header out-body a
   arriving-told peer bytes now-ms q =
-      let r = first-granted (readFields bytes) _ a q in
+      let k = first-granted (readChunk bytes) _ a q in
+      let r = first-granted (readFields bytes) _ (k .0) (k .1) in
       let e = r .2 in
+      let g = k .2 in
       let b : bytes ≡ a .bytes = cc in
       let c = chunk-in bytes (r .0) (r .1) in
       record { chunk-is = cc; header-is = cc; body-is = cc }

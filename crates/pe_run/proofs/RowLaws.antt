@@ -8,6 +8,7 @@ use native.Mathlib.Numerals.{add-one}
 use native.Mathlib.Omega.{arith}
 use lib.Dec.{leb}
 use lib.ListN.{length, getD}
+use Rattle.pe_slot.specs.Layout.{requestIdAt, indexLenAt}
 use Rattle.pe_reassembler.specs.declared.shape.Shape.{Shape}
 use Rattle.pe_reassembler.specs.Table.{slotAt, isActive, rowsFrom}
 use Rattle.pe_reassembler.specs.Open.{shownAt, openSlots}
@@ -84,9 +85,9 @@ open-rows shape t long sound =
     rows-by (λ (b : Model). map shownOf b) refl (map-append shownOf) shape t (isActive (t .numbers)) (shownAt (t .numbers))
     (λ p s h k. one p s (isActive (t .numbers) p s) (entry-held shape t long p s h k (sound .each p s h k)))
   where
-    one : (p s : ℕ) (b : Bool) → length (entryAt shape t p s .state .slot .pieces) ≡ getD (t .numbers) (slotAt p s + 7) 0
+    one : (p s : ℕ) (b : Bool) → length (entryAt shape t p s .state .slot .pieces) ≡ getD (t .numbers) (slotAt p s + indexLenAt) 0
         → cond b (shownAt (t .numbers) p s ∷ []) [] ≡ map shownOf (cond b (entryAt shape t p s ∷ []) [])
-    one p s true e = ap (λ (k : ℕ). record { peer = peerIn t p; request-id = getD (t .numbers) (slotAt p s + 1) 0; held = k } ∷ []) (sym e)
+    one p s true e = ap (λ (k : ℕ). record { peer = peerIn t p; request-id = getD (t .numbers) (slotAt p s + requestIdAt) 0; held = k } ∷ []) (sym e)
     one p s false e = refl
 
 -- ---- those whose time is up

@@ -8,6 +8,7 @@ use lib.Dec.{leb, eqb}
 use lib.ListN.{getD, set}
 use Rattle.seven_bit.specs.Reply.{Reply, refused}
 use Rattle.pe_frame.specs.Chunk.{Chunk}
+use Rattle.pe_slot.specs.Layout.{activeAt, requestIdAt, lastActivityAt, lruTickAt}
 use Rattle.pe_slot.specs.Slot.{Event}
 use Rattle.pe_slot.specs.Memory.{slotOf, contents}
 use Rattle.pe_reassembler.specs.declared.shape.Shape.{Shape}
@@ -35,9 +36,9 @@ pub record Value : Type 0 where
 unfoldable pub cellOf : List ℕ → List ℕ → List ℕ → List ℕ → Cell
 cellOf words index header arena =
     record {
-      tick = getD words 3 0;
-      request-id = getD words 1 0;
-      state = cond (eqb (getD words 0 0) 0) none (some (record { time = getD words 2 0; slot = contents (slotOf words) index header arena }));
+      tick = getD words lruTickAt 0;
+      request-id = getD words requestIdAt 0;
+      state = cond (eqb (getD words activeAt 0) 0) none (some (record { time = getD words lastActivityAt 0; slot = contents (slotOf words) index header arena }));
     }
 
 unfoldable pub cellAt : Shape → Table → ℕ → ℕ → Cell

@@ -8,6 +8,7 @@ use mathlib.Core.Path.{_≡_, refl, sym, ap, ap₂, _∙_}
 use native.Mathlib.Omega.{arith}
 use lib.Dec.{eqb}
 use lib.ListN.{getD}
+use Rattle.pe_slot.specs.Layout.{slotWords, activeAt, requestIdAt}
 use Rattle.pe_reassembler.specs.Table.{slotAt, isBound, boundTo, isActive, isIdle as idleAt, hasId as idAt, orElse, recordOf, recordFor, slotOpen, slotFor}
 use Rattle.pe_reassembler.proofs.PlaceLaws.{get-part}
 use Rattle.pe_reassembler.proofs.EffectsClose.{active-of}
@@ -19,9 +20,9 @@ use Rattle.pe_run.proofs.PlaceOf.{tab, search}
 use Rattle.pe_run.proofs.ListLaws.{eqb-sym}
 
 -- a cell is free as its slot is not active
-free-is : (words index header arena : List ℕ) → isFree (cellOf words index header arena) ≡ eqb (getD words 0 0) 0
+free-is : (words index header arena : List ℕ) → isFree (cellOf words index header arena) ≡ eqb (getD words activeAt 0) 0
 unfolding cellOf
-free-is words index header arena = go (eqb (getD words 0 0) 0) _
+free-is words index header arena = go (eqb (getD words activeAt 0) 0) _
   where
     go : (b : Bool) (o : Open) → isNone (cond b none (some o)) ≡ b
     go true o = refl
@@ -39,14 +40,14 @@ module _ (shape : Shape) (t : Table) where
   pub inactive-is : (p s : ℕ) → not (isActive (t .numbers) p s) ≡ isFree (cellAt shape t p s)
   inactive-is p s = ap not (active-is p s) ∙ not-not (isFree (cellAt shape t p s))
 
-  pub id-at : (p s : ℕ) → cellAt shape t p s .request-id ≡ getD (t .numbers) (slotAt p s + 1) 0
+  pub id-at : (p s : ℕ) → cellAt shape t p s .request-id ≡ getD (t .numbers) (slotAt p s + requestIdAt) 0
   unfolding cellAt cellOf
-  id-at p s = get-part (slotAt p s) 9 1 (t .numbers) (omega arith)
+  id-at p s = get-part (slotAt p s) slotWords requestIdAt (t .numbers) (omega arith)
 
   has-id-is : (request-id p s : ℕ) → idAt (t .numbers) request-id p s ≡ hasId request-id (cellAt shape t p s)
   unfolding idAt
   has-id-is request-id p s =
-      ap₂ _&&_ (active-is p s) (eqb-sym (getD (t .numbers) (slotAt p s + 1) 0) request-id ∙ ap (λ (x : ℕ). eqb request-id x) (sym (id-at p s)))
+      ap₂ _&&_ (active-is p s) (eqb-sym (getD (t .numbers) (slotAt p s + requestIdAt) 0) request-id ∙ ap (λ (x : ℕ). eqb request-id x) (sym (id-at p s)))
 
   pub own-is : (peer p : ℕ) → boundTo (t .numbers) peer p ≡ isOwn peer (recAt shape t p)
   unfolding boundTo recAt

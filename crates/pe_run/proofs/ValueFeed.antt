@@ -8,9 +8,9 @@ use mathlib.Core.Path.{_≡_, refl, sym, ap, ap₂, _∙_, subst}
 use lib.ListN.{length, getD, set}
 use Rattle.seven_bit.specs.Reply.{refused}
 use Rattle.pe_frame.specs.Chunk.{Chunk}
-use Rattle.pe_slot.specs.Feed.{SlotLeft, reachedSlot, toldAnswer, outHeader, outBody}
+use Rattle.pe_slot.specs.Feed.{SlotLeft, toldAnswer, outHeader, outBody}
 use Rattle.pe_reassembler.specs.Table.{hasNumbers, hasRooms, recordFor, slotFor}
-use Rattle.pe_reassembler.specs.Feed.{Memory, FeedLeft, feedLeft, nextTick, wordsPart, roomPart, lifted, reach, inSlot, inRecord, atTable}
+use Rattle.pe_reassembler.specs.Feed.{Memory, FeedLeft, feedLeft, nextTick, wordsPart, roomPart, slotReached, lifted, reach, inSlot, inRecord, atTable}
 use Rattle.pe_reassembler.proofs.TableLaws.{in-range, record-for-below, slot-for-below}
 use Rattle.pe_reassembler.proofs.SlotLengths.{words-length, records-length, header-length, arena-length, reached-sized}
 use Rattle.pe_reassembler.proofs.SoundLaws.{SlotsSound}
@@ -95,10 +95,7 @@ module _ (shape : Shape) (t : Table) (out-header out-body : List ℕ) (peer : �
 
   module _ (p s : ℕ) (hp : p < (shape .«max_peers»)) (hs : s < 4) where
     abbrev a : SlotLeft
-    a =
-        reachedSlot (wordsPart (t .numbers) p s) (roomPart (shape .«fragment_records») (t .index) p s) (roomPart (shape .«header_bytes») (t .headers) p s)
-        (roomPart (shape .«tx_bytes») (t .arenas) p s)
-        c now-ms (nextTick (getD (t .numbers) 0 0)) out-header out-body
+    a = slotReached shape m₀ c now-ms p s
 
     abbrev cell : Cell
     cell =
@@ -132,7 +129,7 @@ module _ (shape : Shape) (t : Table) (out-header out-body : List ℕ) (peer : �
     there : FeedValue shape out-header out-body (takeCell shape v peer c now-ms p (recAt shape t p) s) (lifted shape m₀ peer p s a)
     unfolding lifted takeCell valueOf
     there =
-        let size : AfterSized shape a = reached-sized shape m₀ p s ok hp hs c now-ms (nextTick (getD (t .numbers) 0 0)) out-header out-body (sound .each p s hp hs .sound) in
+        let size : AfterSized shape a = reached-sized shape m₀ p s ok hp hs c now-ms (sound .each p s hp hs .sound) in
         let o = fed-told shape _ _ _ _ c now-ms (nextTick (getD (t .numbers) 0 0)) out-header out-body
         (in-range shape (t .numbers) (numbers-asked shape t ok)) sized (sound .each p s hp hs) header-room body-room short named in
         let q = fed-cell shape _ _ _ _ c now-ms (nextTick (getD (t .numbers) 0 0)) out-header out-body

@@ -6,6 +6,7 @@ use mathlib.Core.Path.{_≡_, refl, ap, ap₂, _∙_}
 use native.Mathlib.Omega.{arith}
 use lib.ListN.{replicate}
 use Rattle.pe_reassembler.specs.Table.{hasNumbers, hasRooms}
+use Rattle.pe_slot.specs.Layout.{slotWords}
 use Rattle.pe_reassembler.specs.Feed.{roomPart}
 use Rattle.pe_reassembler.proofs.EffectsNew.{new-words, new-bound, new-muid, new-clock, new-lengths}
 use Rattle.pe_run.specs.Run.{Table, LongFor, made}
@@ -15,8 +16,8 @@ use Rattle.pe_run.proofs.PlaceOf.{tab-replicate}
 use Rattle.pe_run.proofs.ValueAsks.{recs-tab, cells-tab}
 use Rattle.pe_run.proofs.ValuePlaces.{rec-is}
 
--- nine words of 0 are a cell with nothing open
-zero-cell : (index header arena : List ℕ) → cellOf (replicate 9 0) index header arena ≡ noCell
+-- words of 0 are a cell with nothing open
+zero-cell : (index header arena : List ℕ) → cellOf (replicate slotWords 0) index header arena ≡ noCell
 unfolding cellOf
 zero-cell index header arena = refl
 

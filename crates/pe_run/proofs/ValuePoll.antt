@@ -9,6 +9,7 @@ use native.Mathlib.Omega.{arith}
 use lib.Dec.{leb, eqb}
 use lib.ListN.{getD}
 use Rattle.seven_bit.specs.Reply.{refused}
+use Rattle.pe_slot.specs.Layout.{slotWords, activeAt, lastActivityAt}
 use Rattle.pe_slot.specs.Memory.{slotOf, contents}
 use Rattle.pe_reassembler.specs.Table.{slotAt}
 use Rattle.pe_reassembler.specs.Poll.{Polled, polled as polledInto, isDue, closeDue, pollCall}
@@ -26,9 +27,9 @@ use Rattle.pe_run.proofs.ValueCalls.{renumbered-long, cell-closed, valu
 
 -- a slot is due as its cell is late
 late-is : (words index header arena : List ℕ) (now-ms : ℕ)
-    → (not (eqb (getD words 0 0) 0) && leb 3000 (now-ms - getD words 2 0)) ≡ lateState now-ms (cellOf words index header arena .state)
+    → (not (eqb (getD words activeAt 0) 0) && leb 3000 (now-ms - getD words lastActivityAt 0)) ≡ lateState now-ms (cellOf words index header arena .state)
 unfolding cellOf
-late-is words index header arena now-ms = go (eqb (getD words 0 0) 0) (record { time = getD words 2 0; slot = contents (slotOf words) index header arena })
+late-is words index header arena now-ms = go (eqb (getD words activeAt 0) 0) (record { time = getD words lastActivityAt 0; slot = contents (slotOf words) index header arena })
   where
     go : (b : Bool) (o : Open) → (not b && leb 3000 (now-ms - o .time)) ≡ lateState now-ms (cond b none (some o))
     go true o = refl
@@ -37,7 +38,7 @@ late-is words index header arena now-ms = go (eqb (getD words 0 0) 0) (record { 
 pub due-is : (shape : Shape) (t : Table) (now-ms p s : ℕ) → isDue (t .numbers) now-ms p s ≡ lateState now-ms (cellAt shape t p s .state)
 unfolding isDue cellAt
 due-is shape t now-ms p s =
-    ap₂ (λ (b : Bool) (x : ℕ). b && leb 3000 (now-ms - x)) (active-of (t .numbers) p s) (sym (get-part (slotAt p s) 9 2 (t .numbers) (omega arith)))
+    ap₂ (λ (b : Bool) (x : ℕ). b && leb 3000 (now-ms - x)) (active-of (t .numbers) p s) (sym (get-part (slotAt p s) slotWords lastActivityAt (t .numbers) (omega arith)))
     ∙ late-is _ _ _ _ now-ms
 
 pub record PollValue (shape : Shape) (t : Table) (now-ms : ℕ) (r : Polled) : Type 0 where

@@ -12,6 +12,7 @@ use lib.ListN.{length, getD, take}
 use Rattle.seven_bit.proofs.ReplyLaws.{both, and-told}
 use Rattle.pe_frame.specs.Chunk.{Chunk}
 use Rattle.pe_slot.specs.declared.layout.TxSlot.{TxSlot}
+use Rattle.pe_slot.specs.Layout.{slotWords, activeAt, lastActivityAt, headerLenAt, indexLenAt}
 use Rattle.pe_slot.specs.Slot.{Slot, Verdict, judge, slotAfter}
 use Rattle.pe_slot.specs.Memory.{slotOf, wordsOf, piecesOf, contents, endsAt, isEnd, isSound}
 use Rattle.pe_slot.specs.Feed.{SlotLeft, touched, grown, closedSlot, toldAnswer, outHeader, outBody, placed, reachedSlot}
@@ -52,21 +53,21 @@ touched-sound H B R t index request-id now-ms tick e =
 
 -- the lengths of a slot's parts
 pub record Sized (shape : Shape) (words index header arena : List ℕ) : Type 0 where
-  pub words-size : length words ≡ 9
+  pub words-size : length words ≡ slotWords
   pub index-size : length index ≡ shape .«fragment_records»
   pub header-size : length header ≡ shape .«header_bytes»
   pub arena-size : length arena ≡ shape .«tx_bytes»
 
 module _ (shape : Shape) (words index header arena : List ℕ)
     (neat : SlotSound (shape .«header_bytes») (shape .«tx_bytes») (shape .«fragment_records») words index) where
-  no-records : eqb (getD words 0 0) 0 ≡ true → getD words 7 0 ≡ 0
+  no-records : eqb (getD words activeAt 0) 0 ≡ true → getD words indexLenAt 0 ≡ 0
   no-records e =
       let p : unheld (slotOf words) ≡ true =
       halves (shape .«header_bytes») (shape .«tx_bytes») (shape .«fragment_records») (slotOf words) index (neat .sound) .1 in
-      let q : (eqb (getD words 6 0) 0 && eqb (getD words 7 0) 0) ≡ true = rw e at p in
-      eqb-true _ _ (and-told (eqb (getD words 6 0) 0) (eqb (getD words 7 0) 0) q .1)
+      let q : (eqb (getD words headerLenAt 0) 0 && eqb (getD words indexLenAt 0) 0) ≡ true = rw e at p in
+      eqb-true _ _ (and-told (eqb (getD words headerLenAt 0) 0) (eqb (getD words indexLenAt 0) 0) q .1)
 
-  empty : eqb (getD words 0 0) 0 ≡ true → contents (slotOf words) index header arena ≡ record { header = none; count = 0; pieces = [] }
+  empty : eqb (getD words activeAt 0) 0 ≡ true → contents (slotOf words) index header arena ≡ record { header = none; count = 0; pieces = [] }
   unfolding contents piecesOf
   empty e =
       let b = neat .blank (eqb-true _ _ e) in
@@ -76,16 +77,16 @@ module _ (shape : Shape) (words index header arena : List ℕ)
   held-slot : (now-ms : ℕ)
       → touchedAt (cellOf words index header arena .state) now-ms ≡ record { time = now-ms; slot = contents (slotOf words) index header arena }
   unfolding cellOf
-  held-slot now-ms = go (both (eqb (getD words 0 0) 0))
+  held-slot now-ms = go (both (eqb (getD words activeAt 0) 0))
     where
       s : Slot
       s = contents (slotOf words) index header arena
 
       o : Open
-      o = record { time = getD words 2 0; slot = s }
+      o = record { time = getD words lastActivityAt 0; slot = s }
 
-      go : (eqb (getD words 0 0) 0 ≡ true) ⊎ (eqb (getD words 0 0) 0 ≡ false)
-          → touchedAt (cond (eqb (getD words 0 0) 0) none (some o)) now-ms ≡ record { time = now-ms; slot = s }
+      go : (eqb (getD words activeAt 0) 0 ≡ true) ⊎ (eqb (getD words activeAt 0) 0 ≡ false)
+          → touchedAt (cond (eqb (getD words activeAt 0) 0) none (some o)) now-ms ≡ record { time = now-ms; slot = s }
       go (inl e) = ap (λ (b : Bool). touchedAt (cond b none (some o)) now-ms) e ∙ ap (λ (x : Slot). record { time = now-ms; slot = x }) (sym (empty e))
       go (inr e) = ap (λ (b : Bool). touchedAt (cond b none (some o)) now-ms) e
 

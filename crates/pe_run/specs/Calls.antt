@@ -9,7 +9,7 @@ use lib.Dec.{leb}
 use lib.ListN.{length, drop}
 use Rattle.seven_bit.specs.Reply.{Reply, granted, refused, _else_then_, andThen}
 use Rattle.midici_core.specs.Message.{readMessage}
-use Rattle.pe_frame.specs.Chunk.{Chunk, readFields, chunkOf}
+use Rattle.pe_frame.specs.Chunk.{Chunk, readChunk}
 use Rattle.pe_slot.specs.Slot.{Event, bodyLen}
 use Rattle.pe_slot.specs.Feed.{Told, toldAnswer, outHeader, outBody}
 use Rattle.pe_reassembler.specs.declared.shape.Shape.{Shape}
@@ -54,7 +54,7 @@ arrival peer bytes chunk now-ms out-header out-body =
 
 abbrev pub arriving : ℕ → List ℕ → ℕ → List ℕ → List ℕ → Reply Arrival
 arriving peer bytes now-ms out-header out-body =
-    andThen (readFields bytes) (λ f. granted (arrival peer bytes (chunkOf bytes f) now-ms out-header out-body))
+    andThen (readChunk bytes) (λ c. granted (arrival peer bytes c now-ms out-header out-body))
 
 -- "A frame *arrives* when its call gets yes to every question asked ahead of **Table**'s; otherwise the book stays." Those questions: 30, of
 -- which only the outputs' lengths can have a no in a run, 28, **Frame**'s, or **CI**'s and then **Frame**'s.

@@ -1,11 +1,10 @@
-use mathlib.Core.Path.{ap, _∙_}
 use borrow.Author.Needs.{needs}
 use Rattle.codec_exports.proofs.answer.caps_read.Statement.{statement}
 use Rattle.codec_exports.proofs.answer.caps_read.Tie as tie
 use Rattle.midici_core.specs.declared.pe_caps.CapsRead.{CapsRead}
 use Rattle.midici_core.specs.Caps.{capsTold}
 use Rattle.codec_exports.specs.declared.answer.CapsAnswer.{CapsAnswer}
-use Rattle.codec_exports.specs.Answers.{capsAnswer, capsAnswerOf}
+use Rattle.codec_exports.specs.Answers.{capsAnswerOf}
 use Rattle.hub.proofs.AnswerLaws.{matched}
 
 abbrev tells : CapsRead → CapsAnswer
@@ -17,9 +16,6 @@ enum-known-a c = search needs
 caps-out-requires : tie.Need-caps-out-requires
 caps-out-requires c κs = search needs
 
-caps-answer-requires : tie.Need-caps-answer-requires
-caps-answer-requires c κs = search needs
-
 enum-known-a-2 : tie.Need-enum-known-a-2
 enum-known-a-2 c = search needs
 
@@ -29,14 +25,11 @@ number-requires c κs = search needs
 value-requires : tie.Need-value-requires
 value-requires c κs = search needs
 
-caps-answer-requires-2 : tie.Need-caps-answer-requires-2
-caps-answer-requires-2 c κs = search needs
-
 returns : tie.Need-returns
-returns c = matched tells (c .before .before .before .a .given .1) (c .caps-answer .ensures ∙ ap (capsAnswer 0 0) (c .before .caps-out .ensures))
+returns c = matched tells (c .before .before .a .given .1) (rw (c .caps-out .ensures))
 
 returns-2 : tie.Need-returns-2
-returns-2 c = matched tells (c .before .before .before .before .a2 .given .1) (c .caps-answer2 .ensures ∙ rw (c .before .before .number .ensures, c .before .value .ensures))
+returns-2 c = matched tells (c .before .before .before .a2 .given .1) (rw (c .before .number .ensures, c .value .ensures))
 
 pub caps-read-spec : {M : Type 1} → statement M
 caps-read-spec =
@@ -44,10 +37,8 @@ caps-read-spec =
     (tie.spec
     enum-known-a
     caps-out-requires
-    caps-answer-requires
     enum-known-a-2
     number-requires
     value-requires
-    caps-answer-requires-2
     returns
     returns-2)

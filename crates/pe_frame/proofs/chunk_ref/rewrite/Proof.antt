@@ -57,7 +57,7 @@ use Rattle.pe_wire.proofs.wire.Encoded.Laws as S′
 use Rattle.pe_frame.specs.declared.chunk_ref.ChunkRefRead.{ChunkRefRead}
 use Rattle.pe_frame.specs.declared.chunk_ref.Decoded.{Decoded}
 use Rattle.pe_frame.specs.declared.chunk_ref.PeChunkRef.{PeChunkRef}
-use Rattle.pe_frame.specs.Chunk.{Chunk, Fields, readFields, chunkOf}
+use Rattle.pe_frame.specs.Chunk.{Chunk, readFields, readChunk}
 use Rattle.pe_frame.specs.ChunkRef.{chunkIn, refTold, readRef}
 use Rattle.pe_frame.specs.Write.{writeChunk}
 use Rattle.pe_frame.proofs.ChunkRefLaws.{read-then, refused-then}
@@ -168,14 +168,14 @@ module _ {M : Type 1} (𝓤 : URA M) (H : Heap 𝓤) (A : Atoms 𝓤) (W : Given
   abbrev Said : Chunk → Encoded → List ℕ → Type 0
   Said c t zs = outcome (encodedTold t) zs ≡ writing (writeChunk c (length (now x))) (now x)
 
-  abbrev again : Fields → Reply (List ℕ)
-  again f = writeChunk (chunkOf (now s) f) (length (now x))
+  abbrev again : Chunk → Reply (List ℕ)
+  again c = writeChunk c (length (now x))
 
   abbrev Rewritten : Encoded → List ℕ → Type 0
-  Rewritten t zs = outcome (encodedTold t) zs ≡ writing (andThen (readFields (now s)) again) (now x)
+  Rewritten t zs = outcome (encodedTold t) zs ≡ writing (andThen (readChunk (now s)) again) (now x)
 
   rewritten : (c : PeChunkRef) (t : Encoded) (zs : List ℕ) → Told (read Decoded.Read c) → Said (chunkIn c) t zs → Rewritten t zs
-  rewritten c t zs e g = g ∙ ap (λ (w : Reply (List ℕ)). writing w (now x)) (read-then (now s) (chunkIn c) (readFields (now s)) (λ (k : Chunk). writeChunk k (length (now x))) e)
+  rewritten c t zs e g = g ∙ ap (λ (w : Reply (List ℕ)). writing w (now x)) (read-then (now s) (chunkIn c) (readFields (now s)) again e)
 
   handed-on : (e : PeError) (c : PeChunkRef) → Told (read (Decoded.Refused e) c) → Rewritten (Encoded.Refused e) (now x)
   handed-on e c g = ap (λ (w : Reply (List ℕ)). writing w (now x)) (refused-then (now s) (chunkIn c) (readFields (now s)) again (peNumber e) (peValue e) g)
