@@ -16,7 +16,7 @@ use Rattle.pe_frame.specs.Chunk.{Chunk, readFields, chunkOf}
 use Rattle.pe_frame.specs.Write.{chunkBytes, chunkLen}
 use Rattle.pe_frame.proofs.RoundTrip.{fields, written-then-read}
 use Rattle.pe_frame.proofs.ChunkLaws.{InRange, chunk-length, write-granted}
-use Rattle.pe_chunker.specs.Cut.{clamped, budget, laterCapacity, firstCapacity, cutUp, bodyPieces, chunkAt, cutCount, cutChunk}
+use Rattle.pe_chunker.specs.Cut.{clamped, budget, laterCapacity, firstCapacity, cutUp, bodyPieces, chunkAt, cutCount, cutChunk, message}
 use Rattle.pe_chunker.proofs.CutLaws.{budget-is, later-is, first-is}
 use Rattle.pe_chunker.proofs.PieceLaws.{joined-pieces, pieces-count, piece-length}
 use Rattle.pe_chunker.proofs.AskLaws.{cut-asked}
@@ -52,10 +52,6 @@ pub empty-body-chunk : (id : ℕ) (header : List ℕ) (limit : ℕ)
     → chunkAt id header [] limit 1 ≡ record { request-id = id; header = header; num-chunks = 1; chunk-num = 1; property = [] }
 unfolding chunkAt
 empty-body-chunk id header limit = rw (empty-pieces limit (length header))
-
--- a whole SysEx message: F0, a CI header, a chunk and F7
-abbrev pub message : Header → Chunk → List ℕ
-message ci c = 0xF0 ∷ headerBytes ci ++ chunkBytes c ++ (0xF7 ∷ [])
 
 message-length : (ci : Header) (c : Chunk) → length (message ci c) ≡ 15 + chunkLen c
 message-length ci c = simp (length-append, header-length, chunk-length) (omega arith)

@@ -2,11 +2,12 @@
 -- Assumes nothing.
 use Prim.Native.Nat.{ℕ, zero, suc, _+_, _-_}
 use mathlib.Core.Bool.{cond, _&&_}
-use mathlib.Core.List.{List, [], _∷_}
+use mathlib.Core.List.{List, [], _∷_, _++_}
 use lib.Dec.{leb, ltb, eqb}
 use lib.ListN.{length, getD, take, drop}
 use Rattle.seven_bit.specs.Reply.{Reply, granted, _else_then_, andThen}
 use Rattle.seven_bit.specs.SevenBit.{isSevenBit}
+use Rattle.midici_core.specs.Header.{Header, headerBytes}
 use Rattle.pe_wire.specs.Errors.{peRefused}
 use Rattle.pe_frame.specs.Chunk.{Chunk}
 use Rattle.pe_frame.specs.Write.{chunkBytes, chunkLen}
@@ -81,6 +82,10 @@ cutChunk request-id header body limit k room =
     ((leb 1 k && leb k (length (bodyPieces limit (length header) body))) else 29 then
     leb (chunkLen (chunkAt request-id header body limit k)) room else 3 then
     granted (chunkBytes (chunkAt request-id header body limit k)))
+
+-- "A whole SysEx message, F0 and F7 counted": F0, a CI header, a chunk and F7.
+abbrev pub message : Header → Chunk → List ℕ
+message ci c = 0xF0 ∷ headerBytes ci ++ chunkBytes c ++ (0xF7 ∷ [])
 
 abbrev pub capacityTold : Capacity → Reply ℕ
 capacityTold (Capacity.Bytes n) = granted n

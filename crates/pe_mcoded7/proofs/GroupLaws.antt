@@ -11,13 +11,10 @@ use Rattle.seven_bit.specs.Reply.{Reply}
 use Rattle.seven_bit.specs.SevenBit.{isSevenBit}
 use Rattle.seven_bit.proofs.SevenBitLaws.{seven-bit-cons, seven-bit-split}
 use Rattle.pe_mcoded7.specs.Mcoded7.{flags, groupBytes, restored, groupData, askGroup}
+pub use Rattle.pe_mcoded7.specs.Mcoded7.{Bytes}
 use Rattle.pe_mcoded7.proofs.FlagLaws.{up-to-six, flags-up, flags-next, restored-next}
 use Rattle.pe_mcoded7.proofs.TextLaws.{length-group-bytes, length-restored}
 use Rattle.pe_mcoded7.proofs.AskLaws.{Group, group-good}
-
--- each element is a byte, and past the end 0
-abbrev pub Bytes : List ℕ → Type 0
-Bytes xs = (i : ℕ) → getD xs i 0 < 256
 
 pub bytes-take : (k : ℕ) (xs : List ℕ) → Bytes xs → Bytes (take k xs)
 bytes-take zero xs h i = omega arith

@@ -1,4 +1,4 @@
--- Mcoded7 there and back, over the definitions. `Bytes xs` says that each element of xs is below 256.
+-- Mcoded7 there and back, over the definitions.
 -- Assumes nothing.
 use Prim.Native.Nat.{ℕ, _+_, _-_, _/_, _<_, _≤_}
 use mathlib.Core.Bool.{true}

@@ -1,12 +1,16 @@
 -- Mcoded7 (document 01, module 7): bytes of eight bits in groups of bytes of seven bits.
 -- Assumes nothing.
-use Prim.Native.Nat.{ℕ, _+_, _-_, _*_, _/_, _%_, _^_}
+use Prim.Native.Nat.{ℕ, _+_, _-_, _*_, _/_, _%_, _^_, _<_}
 use mathlib.Core.List.{List, [], _∷_, map}
 use lib.Dec.{leb, eqb}
 use lib.ListN.{length, getD}
 use Rattle.seven_bit.specs.Parts.{pieces, joined}
 use Rattle.seven_bit.specs.Reply.{Reply, granted, _else_then_}
 use Rattle.seven_bit.specs.SevenBit.{isSevenBit}
+
+-- Each element is a byte, and past the end 0: what the round trips ask of a list.
+abbrev pub Bytes : List ℕ → Type 0
+Bytes xs = (i : ℕ) → getD xs i 0 < 256
 
 -- The top bits of a group's bytes, the first one's in bit b, the next one's in the bit below.
 unfoldable pub flags : ℕ → List ℕ → ℕ

@@ -22,6 +22,7 @@ use Rattle.pe_slot.specs.Layout.{slotWords}
 use Rattle.pe_reassembler.specs.declared.shape.Shape.{Shape}
 use Rattle.pe_reassembler.specs.Feed.{Memory, nextTick, wordsPart, roomPart, slotReached}
 use Rattle.pe_reassembler.specs.Table.{hasRooms, slotAt, roomAt}
+use Rattle.pe_reassembler.specs.Sound.{Blank, Headed}
 use Rattle.pe_reassembler.proofs.Effects.{Sized, Roomy, rooms-told}
 use Rattle.pe_reassembler.proofs.FeedLaws.{room-in}
 
@@ -31,14 +32,6 @@ pub record SameLengths (index header arena : List ℕ) (a : SlotLeft) : Type 0 w
   pub records : length (a .index) ≡ length index
   pub header-bytes : length (a .header) ≡ length header
   pub tx-bytes : length (a .arena) ≡ length arena
-
--- a slot that is not open knows no header and no count
-abbrev pub Blank : TxSlot → Type 0
-Blank t = t .active ≡ 0 → (t .«header_set» ≡ 0) × (t .«num_chunks» ≡ 0)
-
--- a header that is not set has no length
-abbrev pub Headed : TxSlot → Type 0
-Headed t = t .«header_set» ≡ 0 → t .«header_len» ≡ 0
 
 module _ (t : TxSlot) (index header arena : List ℕ) (c : Chunk) (out-header out-body : List ℕ) where
   placed-as : (v : Verdict) → Fitting t index header arena c v → SameLengths index header arena (placed t index header arena c v out-header out-body)

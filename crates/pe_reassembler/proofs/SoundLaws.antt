@@ -26,23 +26,13 @@ use Rattle.pe_reassembler.specs.Calls.{onRecord, newCall, closeAt, cance
 use Rattle.pe_reassembler.specs.Feed.{Memory, wordsPart, roomPart, slotReached, lifted, reach, inSlot, inRecord, atTable, chunkRead, hasAll, feedCall, messageRead, messageCall}
 use Rattle.pe_reassembler.specs.Poll.{isDue, closeDue, pollCall}
 use Rattle.pe_reassembler.specs.Table.{numbersLen, hasNumbers, hasRooms, isActive, isMuid, recordOf, recordFor, slotOpen, slotFor}
+pub use Rattle.pe_reassembler.specs.Sound.{Blank, Headed, SlotSound, SlotsSound}
 use Rattle.pe_reassembler.proofs.Effects.{Sized, lifted-words, lifted-words-other, lifted-index, lifted-index-other}
 use Rattle.pe_reassembler.proofs.EffectsClose.{close-words, close-words-other, due-words, drop-words, drop-words-other}
 use Rattle.pe_reassembler.proofs.EffectsNew.{new-words}
 use Rattle.pe_reassembler.proofs.FeedLaws.{slot-fed}
-use Rattle.pe_reassembler.proofs.SlotLengths.{Blank, Headed, reached-blank, reached-headed, reached-sized, sound-rooms}
+use Rattle.pe_reassembler.proofs.SlotLengths.{reached-blank, reached-headed, reached-sized, sound-rooms}
 use Rattle.pe_reassembler.proofs.TableLaws.{numbers-long, record-of-below, record-for-below, slot-open-below, slot-for-below}
-
--- a slot's words and records
-pub record SlotSound (H B R : ℕ) (words records : List ℕ) : Type 0 where
-  pub sound : isSound H B R (slotOf words) records ≡ true
-  pub blank : Blank (slotOf words)
-  pub headed : Headed (slotOf words)
-
--- each slot of a table
-pub record SlotsSound (shape : Shape) (numbers index : List ℕ) : Type 0 where
-  pub each : (p s : ℕ) → p < shape .«max_peers» → s < 4
-      → SlotSound (shape .«header_bytes») (shape .«tx_bytes») (shape .«fragment_records») (wordsPart numbers p s) (roomPart (shape .«fragment_records») index p s)
 
 -- a slot that is closed
 closed-sound : (H B R : ℕ) (words records : List ℕ) → SlotSound H B R (wordsOf (closedSlot (slotOf words))) records

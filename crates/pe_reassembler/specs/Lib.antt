@@ -5,3 +5,4 @@ pub mod Poll
 pub mod Listing
 pub mod Steps
 pub mod Open
+pub mod Sound
