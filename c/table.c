@@ -1,43 +1,39 @@
 /* A table of lent slices. */
 #include "table.h"
 
-bool table_in_range(const struct table *table)
+bool shape_in_range(midici_pe_shape shape)
 {
-    return table->max_peers <= MIDICI_PE_MAX_PEERS && table->header_bytes <= MIDICI_PE_HEADER_BYTES &&
-           table->tx_bytes <= MIDICI_PE_TX_BYTES && table->fragment_records <= MIDICI_PE_FRAGMENT_RECORDS;
+    return shape.max_peers <= MIDICI_PE_MAX_PEERS && shape.header_bytes <= MIDICI_PE_HEADER_BYTES &&
+           shape.tx_bytes <= MIDICI_PE_TX_BYTES && shape.fragment_records <= MIDICI_PE_FRAGMENT_RECORDS;
 }
 
 bool table_has_words(int slice) { return slice == NUMBERS || slice == INDEX || slice >= OUT_PEERS; }
 
-size_t table_asks(const struct table *table, int slice)
+size_t shape_asks(midici_pe_shape shape, int slice)
 {
     switch (slice) {
     case NUMBERS:
-        return 8 * MIDICI_PE_NUMBERS_LEN(table->max_peers);
+        return 8 * MIDICI_PE_NUMBERS_LEN(shape.max_peers);
     case INDEX:
-        return 8 * MIDICI_PE_INDEX_LEN(table->max_peers, table->fragment_records);
+        return 8 * MIDICI_PE_INDEX_LEN(shape.max_peers, shape.fragment_records);
     case HEADERS:
-        return MIDICI_PE_HEADERS_LEN(table->max_peers, table->header_bytes);
+        return MIDICI_PE_HEADERS_LEN(shape.max_peers, shape.header_bytes);
     case ARENAS:
-        return MIDICI_PE_ARENAS_LEN(table->max_peers, table->tx_bytes);
+        return MIDICI_PE_ARENAS_LEN(shape.max_peers, shape.tx_bytes);
     case OUT_HEADER:
-        return table->header_bytes;
+        return shape.header_bytes;
     case OUT_BODY:
-        return table->tx_bytes;
+        return shape.tx_bytes;
     default:
-        return 8 * MIDICI_PE_PLACES(table->max_peers);
+        return 8 * MIDICI_PE_PLACES(shape.max_peers);
     }
 }
 
-void table_make(struct table *table, size_t max_peers, size_t header_bytes, size_t tx_bytes, size_t fragment_records,
-                size_t extra_elements)
+void table_make(struct table *table, midici_pe_shape shape, size_t extra_elements)
 {
-    table->max_peers = max_peers;
-    table->header_bytes = header_bytes;
-    table->tx_bytes = tx_bytes;
-    table->fragment_records = fragment_records;
+    table->shape = shape;
     for (int i = 0; i < LENT; i++)
-        lent_make(&table->lent[i], table_asks(table, i) + extra_elements * (table_has_words(i) ? 8 : 1));
+        lent_make(&table->lent[i], shape_asks(shape, i) + extra_elements * (table_has_words(i) ? 8 : 1));
 }
 
 void table_free(struct table *table)

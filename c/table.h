@@ -12,19 +12,18 @@
 enum { NUMBERS, INDEX, HEADERS, ARENAS, OUT_HEADER, OUT_BODY, OUT_PEERS, OUT_REQUEST_IDS, OUT_CHUNKS_HELD, LENT };
 
 struct table {
-    size_t max_peers, header_bytes, tx_bytes, fragment_records;
+    midici_pe_shape shape;
     struct lent lent[LENT];
 };
 
-/* Is the shape in range? */
-bool table_in_range(const struct table *table);
+/* Is a shape in range? */
+bool shape_in_range(midici_pe_shape shape);
 
-/* How many bytes the shape asks of a slice, which must be in range. */
-size_t table_asks(const struct table *table, int slice);
+/* How many bytes a shape that is in range asks of a slice. */
+size_t shape_asks(midici_pe_shape shape, int slice);
 
 /* All slices of a table at once. */
-void table_make(struct table *table, size_t max_peers, size_t header_bytes, size_t tx_bytes, size_t fragment_records,
-                size_t extra_elements);
+void table_make(struct table *table, midici_pe_shape shape, size_t extra_elements);
 void table_free(struct table *table);
 void table_keep(struct table *table);
 bool table_same(const struct table *table);
@@ -35,63 +34,62 @@ bool table_has_words(int slice);
 
 /* ---- The calls, each lent its slices of the table ---- */
 
-#define SHAPE(t) t->max_peers, t->header_bytes, t->tx_bytes, t->fragment_records
 #define BYTES(t, slice) t->lent[slice].at, t->lent[slice].len
 #define WORDS(t, slice) lent_words(&t->lent[slice]), t->lent[slice].len / 8
 #define MEMORY(t) WORDS(t, NUMBERS), WORDS(t, INDEX), BYTES(t, HEADERS), BYTES(t, ARENAS)
 
 midici_pe_answer model_new(struct table *table);
-static inline midici_pe_answer table_new(struct table *table) { return midici_pe_new(SHAPE(table), MEMORY(table)); }
+static inline midici_pe_answer table_new(struct table *table) { return midici_pe_new(table->shape, MEMORY(table)); }
 
 midici_pe_fed model_feed(struct table *table, uint32_t peer, const struct lent *raw_chunk, uint64_t now_ms);
 static inline midici_pe_fed table_feed(struct table *table, uint32_t peer, const uint8_t *raw_chunk, size_t raw_chunk_len,
                                        uint64_t now_ms)
 {
-    return midici_pe_feed(SHAPE(table), MEMORY(table), peer, raw_chunk, raw_chunk_len, now_ms, BYTES(table, OUT_HEADER),
+    return midici_pe_feed(table->shape, MEMORY(table), peer, raw_chunk, raw_chunk_len, now_ms, BYTES(table, OUT_HEADER),
                           BYTES(table, OUT_BODY));
 }
 
 midici_pe_fed model_feed_message(struct table *table, const struct lent *body, uint64_t now_ms);
 static inline midici_pe_fed table_feed_message(struct table *table, const uint8_t *body, size_t body_len, uint64_t now_ms)
 {
-    return midici_pe_feed_message(SHAPE(table), MEMORY(table), body, body_len, now_ms, BYTES(table, OUT_HEADER),
+    return midici_pe_feed_message(table->shape, MEMORY(table), body, body_len, now_ms, BYTES(table, OUT_HEADER),
                                   BYTES(table, OUT_BODY));
 }
 
 midici_pe_answer model_cancel(struct table *table, uint32_t peer, uint8_t request_id);
 static inline midici_pe_answer table_cancel(struct table *table, uint32_t peer, uint8_t request_id)
 {
-    return midici_pe_cancel(SHAPE(table), WORDS(table, NUMBERS), peer, request_id);
+    return midici_pe_cancel(table->shape, WORDS(table, NUMBERS), peer, request_id);
 }
 
 midici_pe_answer model_drop_peer(struct table *table, uint32_t peer);
 static inline midici_pe_answer table_drop_peer(struct table *table, uint32_t peer)
 {
-    return midici_pe_drop_peer(SHAPE(table), WORDS(table, NUMBERS), peer);
+    return midici_pe_drop_peer(table->shape, WORDS(table, NUMBERS), peer);
 }
 
 midici_pe_answer model_poll(struct table *table, uint64_t now_ms);
 static inline midici_pe_answer table_poll(struct table *table, uint64_t now_ms)
 {
-    return midici_pe_poll(SHAPE(table), WORDS(table, NUMBERS), now_ms, WORDS(table, OUT_PEERS),
+    return midici_pe_poll(table->shape, WORDS(table, NUMBERS), now_ms, WORDS(table, OUT_PEERS),
                           WORDS(table, OUT_REQUEST_IDS));
 }
 
 midici_pe_answer model_open_list(struct table *table);
 static inline midici_pe_answer table_open_list(struct table *table)
 {
-    return midici_pe_open_list(SHAPE(table), WORDS(table, NUMBERS), WORDS(table, OUT_PEERS), WORDS(table, OUT_REQUEST_IDS),
+    return midici_pe_open_list(table->shape, WORDS(table, NUMBERS), WORDS(table, OUT_PEERS), WORDS(table, OUT_REQUEST_IDS),
                                WORDS(table, OUT_CHUNKS_HELD));
 }
 
 midici_pe_stats model_memory_stats(struct table *table);
 static inline midici_pe_stats table_memory_stats(struct table *table)
 {
-    return midici_pe_memory_stats(SHAPE(table), WORDS(table, NUMBERS));
+    return midici_pe_memory_stats(table->shape, WORDS(table, NUMBERS));
 }
 
 midici_pe_answer model_reserved_bytes(struct table *table);
-static inline midici_pe_answer table_reserved_bytes(struct table *table) { return midici_pe_reserved_bytes(SHAPE(table)); }
+static inline midici_pe_answer table_reserved_bytes(struct table *table) { return midici_pe_reserved_bytes(table->shape); }
 
 /* ---- A row for each call ---- */
 

@@ -38,7 +38,7 @@
 #include <stdint.h>
 
 #define MIDICI_PE_VERSION_MAJOR 0
-#define MIDICI_PE_VERSION_MINOR 1
+#define MIDICI_PE_VERSION_MINOR 2
 #define MIDICI_PE_VERSION_PATCH 0
 
 /* More stack than any call takes (make sizes measures each). */
@@ -158,12 +158,15 @@ midici_pe_answer midici_pe_encode_message(uint8_t sub_id2, uint32_t source, uint
 /* ---- Receiving ---- */
 
 /* A table joins the chunks of up to `max_peers` peers, with up to four open lists each. Its shape is four numbers, given
- * again with every call, always the same:
- *   max_peers         0 to 16
- *   header_bytes      room for the header of one list, 0 to 4,096
- *   tx_bytes          room for the body of one list, 0 to 65,536
- *   fragment_records  how many chunks one open list can hold, 0 to 2,048
- * Its memory is four slices of at least the lengths below; longer ones are fine, and what is past the length is never
+ * again with every call, always the same. */
+typedef struct midici_pe_shape {
+    size_t max_peers;        /* 0 to 16 */
+    size_t header_bytes;     /* room for the header of one list, 0 to 4,096 */
+    size_t tx_bytes;         /* room for the body of one list, 0 to 65,536 */
+    size_t fragment_records; /* how many chunks one open list can hold, 0 to 2,048 */
+} midici_pe_shape;
+
+/* Its memory is four slices of at least the lengths below; longer ones are fine, and what is past the length is never
  * touched. midici_pe_new makes a table in them. From then on only the calls below may write them; you may move or copy a
  * table between calls. Every call is lent just the slices that it needs.
  *
@@ -192,9 +195,9 @@ midici_pe_answer midici_pe_encode_message(uint8_t sub_id2, uint32_t source, uint
 /* Makes an empty table. It writes `numbers` and `index`; `headers` and `arenas` are measured and keep their bytes. Called
  * again on the same memory, it makes a new table, and what was open is gone. `count` is 0.
  * Refusals: 30. Everything is then as it was. */
-midici_pe_answer midici_pe_new(size_t max_peers, size_t header_bytes, size_t tx_bytes, size_t fragment_records,
-                               uint64_t *numbers, size_t numbers_len, uint64_t *index, size_t index_len,
-                               const uint8_t *headers, size_t headers_len, const uint8_t *arenas, size_t arenas_len);
+midici_pe_answer midici_pe_new(midici_pe_shape shape, uint64_t *numbers, size_t numbers_len, uint64_t *index,
+                               size_t index_len, const uint8_t *headers, size_t headers_len, const uint8_t *arenas,
+                               size_t arenas_len);
 
 /* Feeds a chunk that came from a peer at the time `now_ms`, in milliseconds of a clock of yours. The list is complete with
  * the chunk that leaves its count known and each number from 1 to the count held. Then `whole` is 1, the header stands in
@@ -210,31 +213,29 @@ midici_pe_answer midici_pe_new(size_t max_peers, size_t header_bytes, size_t tx_
  * The list has then been opened, if it was not open, its time is now_ms, and it may have taken the chunk's header and
  * count, but not its bytes. But for the two cases named it stays open and keeps what it holds: so also where a chunk with
  * number 0 has another count, or one that makes the body too long is there already or finds no record. */
-midici_pe_fed midici_pe_feed(size_t max_peers, size_t header_bytes, size_t tx_bytes, size_t fragment_records,
-                             uint64_t *numbers, size_t numbers_len, uint64_t *index, size_t index_len, uint8_t *headers,
-                             size_t headers_len, uint8_t *arenas, size_t arenas_len, uint32_t peer,
-                             const uint8_t *raw_chunk, size_t raw_chunk_len, uint64_t now_ms, uint8_t *out_header,
-                             size_t out_header_len, uint8_t *out_body, size_t out_body_len);
+midici_pe_fed midici_pe_feed(midici_pe_shape shape, uint64_t *numbers, size_t numbers_len, uint64_t *index,
+                             size_t index_len, uint8_t *headers, size_t headers_len, uint8_t *arenas, size_t arenas_len,
+                             uint32_t peer, const uint8_t *raw_chunk, size_t raw_chunk_len, uint64_t now_ms,
+                             uint8_t *out_header, size_t out_header_len, uint8_t *out_body, size_t out_body_len);
 
 /* Feeds the chunk of a whole message (without F0 and F7) as one from its source. The destination is not looked at: a
  * message for somebody else is yours to sort out before.
  * Refusals: 30; then 21, 22, 23, 26 and 24 (`value` is the kind), which leave everything as it was; then those of
  * midici_pe_feed, with what they leave, but 28: a source has 28 bits. */
-midici_pe_fed midici_pe_feed_message(size_t max_peers, size_t header_bytes, size_t tx_bytes, size_t fragment_records,
-                                     uint64_t *numbers, size_t numbers_len, uint64_t *index, size_t index_len,
-                                     uint8_t *headers, size_t headers_len, uint8_t *arenas, size_t arenas_len,
-                                     const uint8_t *body, size_t body_len, uint64_t now_ms, uint8_t *out_header,
-                                     size_t out_header_len, uint8_t *out_body, size_t out_body_len);
+midici_pe_fed midici_pe_feed_message(midici_pe_shape shape, uint64_t *numbers, size_t numbers_len, uint64_t *index,
+                                     size_t index_len, uint8_t *headers, size_t headers_len, uint8_t *arenas,
+                                     size_t arenas_len, const uint8_t *body, size_t body_len, uint64_t now_ms,
+                                     uint8_t *out_header, size_t out_header_len, uint8_t *out_body,
+                                     size_t out_body_len);
 
 /* Closes the list that a peer has open with a request id (any byte). `count` is 1 if there was one, else 0.
  * Refusals: 30; 28 peer above 0FFFFFFF. Everything is then as it was. */
-midici_pe_answer midici_pe_cancel(size_t max_peers, size_t header_bytes, size_t tx_bytes, size_t fragment_records,
-                                  uint64_t *numbers, size_t numbers_len, uint32_t peer, uint8_t request_id);
+midici_pe_answer midici_pe_cancel(midici_pe_shape shape, uint64_t *numbers, size_t numbers_len, uint32_t peer,
+                                  uint8_t request_id);
 
 /* Closes all lists of a peer and frees its record. `count` is how many were open.
  * Refusals: 30; 28 peer above 0FFFFFFF. Everything is then as it was. */
-midici_pe_answer midici_pe_drop_peer(size_t max_peers, size_t header_bytes, size_t tx_bytes, size_t fragment_records,
-                                     uint64_t *numbers, size_t numbers_len, uint32_t peer);
+midici_pe_answer midici_pe_drop_peer(midici_pe_shape shape, uint64_t *numbers, size_t numbers_len, uint32_t peer);
 
 /* Closes each list that no chunk has reached for MIDICI_PE_TIMEOUT_MS or more. A list whose time lies after now_ms (the
  * clock went back) stays open; the others are judged as ever. `count` is how many are closed. Peer and request id of each
@@ -242,30 +243,27 @@ midici_pe_answer midici_pe_drop_peer(size_t max_peers, size_t header_bytes, size
  * reached a list count too. The outputs have at least MIDICI_PE_PLACES(max_peers) elements; places past the count keep
  * their values.
  * Refusals: 30, also for a short output. Everything is then as it was. */
-midici_pe_answer midici_pe_poll(size_t max_peers, size_t header_bytes, size_t tx_bytes, size_t fragment_records,
-                                uint64_t *numbers, size_t numbers_len, uint64_t now_ms, uint64_t *out_peers,
-                                size_t out_peers_len, uint64_t *out_request_ids, size_t out_request_ids_len);
+midici_pe_answer midici_pe_poll(midici_pe_shape shape, uint64_t *numbers, size_t numbers_len, uint64_t now_ms,
+                                uint64_t *out_peers, size_t out_peers_len, uint64_t *out_request_ids,
+                                size_t out_request_ids_len);
 
 /* Lists the open lists, in any order: peer, request id and how many chunks it holds stand at the same place of the three
  * outputs. `count` is how many there are. The outputs have at least MIDICI_PE_PLACES(max_peers) elements; places past the
  * count keep their values. The table stays as it is.
  * Refusals: 30, also for a short output. Everything is then as it was. */
-midici_pe_answer midici_pe_open_list(size_t max_peers, size_t header_bytes, size_t tx_bytes, size_t fragment_records,
-                                     const uint64_t *numbers, size_t numbers_len, uint64_t *out_peers,
-                                     size_t out_peers_len, uint64_t *out_request_ids, size_t out_request_ids_len,
-                                     uint64_t *out_chunks_held, size_t out_chunks_held_len);
+midici_pe_answer midici_pe_open_list(midici_pe_shape shape, const uint64_t *numbers, size_t numbers_len,
+                                     uint64_t *out_peers, size_t out_peers_len, uint64_t *out_request_ids,
+                                     size_t out_request_ids_len, uint64_t *out_chunks_held, size_t out_chunks_held_len);
 
 /* What the table takes and holds: reserved_bytes as midici_pe_reserved_bytes counts it; active_bytes, the header and body
  * bytes of all open lists and 8 for each chunk held; active_slots, how many lists are open. Nothing is written.
  * Refusals: 30. */
-midici_pe_stats midici_pe_memory_stats(size_t max_peers, size_t header_bytes, size_t tx_bytes, size_t fragment_records,
-                                       const uint64_t *numbers, size_t numbers_len);
+midici_pe_stats midici_pe_memory_stats(midici_pe_shape shape, const uint64_t *numbers, size_t numbers_len);
 
 /* `count` is how many bytes the rooms of a table take, 4 * max_peers * (header_bytes + tx_bytes + 8 * fragment_records):
  * its index, headers and arenas.
  * Refusals: 30. */
-midici_pe_answer midici_pe_reserved_bytes(size_t max_peers, size_t header_bytes, size_t tx_bytes,
-                                          size_t fragment_records);
+midici_pe_answer midici_pe_reserved_bytes(midici_pe_shape shape);
 
 #ifdef __cplusplus
 }

@@ -2,6 +2,13 @@
 use crate::inputs::{List, PEERS, REQUEST_ID};
 use oracle::layout::{numbers_len, slots, FRAGMENT_RECORDS, HEADER_BYTES, TX_BYTES};
 
+const SHAPE: exports::Shape = exports::Shape {
+    max_peers: PEERS,
+    header_bytes: HEADER_BYTES,
+    tx_bytes: TX_BYTES,
+    fragment_records: FRAGMENT_RECORDS,
+};
+
 /// A table of full size with the memory that it is lent, and the two outputs. Nothing of it is cleared between lists.
 pub struct Table {
     numbers: Vec<u64>,
@@ -23,17 +30,14 @@ impl Table {
             out_body: vec![1; TX_BYTES],
         };
         let Table { numbers, index, headers, arenas, .. } = &mut table;
-        let made = exports::midici_pe_new(PEERS, HEADER_BYTES, TX_BYTES, FRAGMENT_RECORDS, numbers, index, headers, arenas);
+        let made = exports::midici_pe_new(SHAPE, numbers, index, headers, arenas);
         assert_eq!(made.refusal, 0, "the port's new");
         table
     }
 
     pub fn feed(&mut self, peer: u32, raw_chunk: &[u8]) -> exports::FedAnswer {
         exports::midici_pe_feed(
-            PEERS,
-            HEADER_BYTES,
-            TX_BYTES,
-            FRAGMENT_RECORDS,
+            SHAPE,
             &mut self.numbers,
             &mut self.index,
             &mut self.headers,
@@ -47,7 +51,7 @@ impl Table {
     }
 
     pub fn drop_peer(&mut self, peer: u32) {
-        exports::midici_pe_drop_peer(PEERS, HEADER_BYTES, TX_BYTES, FRAGMENT_RECORDS, &mut self.numbers, peer);
+        exports::midici_pe_drop_peer(SHAPE, &mut self.numbers, peer);
     }
 }
 

@@ -37,7 +37,8 @@ enum {
 /* The MUIDs of the devices. */
 enum { HUB = 0x0123456, MIXER = 0x0A1B2C3, KEYBOARD = 0x0000011, DRUMS = 0x0000022, LIGHTS = 0x0000033 };
 
-/* The table's memory, which is lent with each call. */
+/* The table's shape, and its memory, which is lent with each call. */
+static const midici_pe_shape shape = {PEERS, HEADER_BYTES, TX_BYTES, RECORDS};
 static uint64_t numbers[NUMBERS_LEN];
 static uint64_t fragment_index[INDEX_LEN];
 static uint8_t headers[MIDICI_PE_HEADERS_LEN(PEERS, HEADER_BYTES)];
@@ -252,26 +253,26 @@ static struct message message_with_chunk(const struct list *list, uint16_t chunk
 
 static void make_table(void)
 {
-    midici_pe_answer made = midici_pe_new(PEERS, HEADER_BYTES, TX_BYTES, RECORDS, numbers, NUMBERS_LEN, fragment_index,
-                                          INDEX_LEN, headers, sizeof headers, arenas, sizeof arenas);
+    midici_pe_answer made = midici_pe_new(shape, numbers, NUMBERS_LEN, fragment_index, INDEX_LEN, headers, sizeof headers,
+                                          arenas, sizeof arenas);
     must(made.refusal == MIDICI_PE_OK, "the table is made");
 }
 
 /* What cable A's port does: it hands over the whole message, F0 and F7 taken off. */
 static midici_pe_fed arrive_whole(const struct message *message, uint64_t now_ms, struct received *received)
 {
-    return midici_pe_feed_message(PEERS, HEADER_BYTES, TX_BYTES, RECORDS, numbers, NUMBERS_LEN, fragment_index, INDEX_LEN,
-                                  headers, sizeof headers, arenas, sizeof arenas, message->bytes + 1,
-                                  len_behind(message, 1), now_ms, received->header, HEADER_BYTES, received->body, TX_BYTES);
+    return midici_pe_feed_message(shape, numbers, NUMBERS_LEN, fragment_index, INDEX_LEN, headers, sizeof headers, arenas,
+                                  sizeof arenas, message->bytes + 1, len_behind(message, 1), now_ms, received->header,
+                                  HEADER_BYTES, received->body, TX_BYTES);
 }
 
 /* What cable B's port does: it has read the CI header itself, and hands over the chunk behind it and its sender. */
 static midici_pe_fed arrive_bare(uint32_t sender, const struct message *message, uint64_t now_ms, struct received *received)
 {
     size_t before = 1 + MIDICI_PE_CI_HEADER_LEN;
-    return midici_pe_feed(PEERS, HEADER_BYTES, TX_BYTES, RECORDS, numbers, NUMBERS_LEN, fragment_index, INDEX_LEN, headers,
-                          sizeof headers, arenas, sizeof arenas, sender, message->bytes + before,
-                          len_behind(message, before), now_ms, received->header, HEADER_BYTES, received->body, TX_BYTES);
+    return midici_pe_feed(shape, numbers, NUMBERS_LEN, fragment_index, INDEX_LEN, headers, sizeof headers, arenas,
+                          sizeof arenas, sender, message->bytes + before, len_behind(message, before), now_ms,
+                          received->header, HEADER_BYTES, received->body, TX_BYTES);
 }
 
 static midici_pe_fed arrive(char cable, uint32_t sender, const struct message *message, uint64_t now_ms,
@@ -315,7 +316,7 @@ static void expect_whole(midici_pe_fed answer, const struct list *list)
 
 static void print_totals(uint64_t expected_open)
 {
-    midici_pe_stats stats = midici_pe_memory_stats(PEERS, HEADER_BYTES, TX_BYTES, RECORDS, numbers, NUMBERS_LEN);
+    midici_pe_stats stats = midici_pe_memory_stats(shape, numbers, NUMBERS_LEN);
     printf("  Totals: %s bytes of rooms, %" PRIu64 " lists open, %s bytes held for them.\n",
            in_thousands(stats.reserved_bytes), stats.active_slots, in_thousands(stats.active_bytes));
     must(stats.refusal == MIDICI_PE_OK && stats.active_slots == expected_open, "so many lists are open");
@@ -324,8 +325,8 @@ static void print_totals(uint64_t expected_open)
 static void print_open_lists(uint64_t expected_open)
 {
     uint64_t peers[PLACES], request_ids[PLACES], chunks_held[PLACES];
-    midici_pe_answer open = midici_pe_open_list(PEERS, HEADER_BYTES, TX_BYTES, RECORDS, numbers, NUMBERS_LEN, peers, PLACES,
-                                                request_ids, PLACES, chunks_held, PLACES);
+    midici_pe_answer open =
+        midici_pe_open_list(shape, numbers, NUMBERS_LEN, peers, PLACES, request_ids, PLACES, chunks_held, PLACES);
     must(open.refusal == MIDICI_PE_OK && open.count == expected_open, "so many lists are open");
     printf("  The open lists:\n");
     for (uint64_t i = 0; i < open.count; i++)
@@ -337,8 +338,7 @@ static void print_open_lists(uint64_t expected_open)
 static void poll_table(uint64_t now_ms, uint64_t expected_closed)
 {
     uint64_t peers[PLACES], request_ids[PLACES];
-    midici_pe_answer closed = midici_pe_poll(PEERS, HEADER_BYTES, TX_BYTES, RECORDS, numbers, NUMBERS_LEN, now_ms, peers,
-                                             PLACES, request_ids, PLACES);
+    midici_pe_answer closed = midici_pe_poll(shape, numbers, NUMBERS_LEN, now_ms, peers, PLACES, request_ids, PLACES);
     printf("  %4" PRIu64 " ms: the hub looks for lists without a chunk for %d ms, and closes %" PRIu64 ".\n",
            now_ms % DAY_MS, MIDICI_PE_TIMEOUT_MS, closed.count);
     for (uint64_t i = 0; i < closed.count; i++)
@@ -405,11 +405,10 @@ static void wednesday(const struct list *list, struct received *received)
 
 static void cancel_and_drop(uint8_t request_id)
 {
-    midici_pe_answer cancelled =
-        midici_pe_cancel(PEERS, HEADER_BYTES, TX_BYTES, RECORDS, numbers, NUMBERS_LEN, KEYBOARD, request_id);
+    midici_pe_answer cancelled = midici_pe_cancel(shape, numbers, NUMBERS_LEN, KEYBOARD, request_id);
     printf("  The hub cancels request %d of the keyboard: lists closed: %" PRIu64 ".\n", request_id, cancelled.count);
     must(cancelled.refusal == MIDICI_PE_OK && cancelled.count == 1, "one list is cancelled");
-    midici_pe_answer dropped = midici_pe_drop_peer(PEERS, HEADER_BYTES, TX_BYTES, RECORDS, numbers, NUMBERS_LEN, DRUMS);
+    midici_pe_answer dropped = midici_pe_drop_peer(shape, numbers, NUMBERS_LEN, DRUMS);
     printf("  The drums are switched off, and the hub drops them: lists closed: %" PRIu64 ".\n", dropped.count);
     must(dropped.refusal == MIDICI_PE_OK && dropped.count == 1, "one list is dropped");
 }

@@ -83,20 +83,22 @@ static size_t take_len(struct input *input, size_t asked, size_t size)
     return elements * size;
 }
 
-static void choose_shape(struct input *input, struct table *table)
+static midici_pe_shape choose_shape(struct input *input)
 {
-    table->max_peers = take_size(input, 3, 16);
-    table->header_bytes = take_size(input, 12, 4096);
-    table->tx_bytes = take_size(input, 40, 65536);
-    table->fragment_records = take_size(input, 6, 2048);
+    midici_pe_shape shape;
+    shape.max_peers = take_size(input, 3, 16);
+    shape.header_bytes = take_size(input, 12, 4096);
+    shape.tx_bytes = take_size(input, 40, 65536);
+    shape.fragment_records = take_size(input, 6, 2048);
+    return shape;
 }
 
 /* The lengths of the table's slices; whether all fit into SMALL. */
-static bool choose_lens(struct input *input, const struct table *table, size_t lens[LENT])
+static bool choose_lens(struct input *input, midici_pe_shape shape, size_t lens[LENT])
 {
     bool is_exact = take(input) < 192, is_small = true;
     for (int slice = 0; slice < LENT; slice++) {
-        size_t size = table_has_words(slice) ? 8 : 1, asked = table_in_range(table) ? table_asks(table, slice) : 8 * size;
+        size_t size = table_has_words(slice) ? 8 : 1, asked = shape_in_range(shape) ? shape_asks(shape, slice) : 8 * size;
         lens[slice] = least(is_exact ? asked : take_len(input, asked, size), LARGE / 8 * 8);
         is_small = is_small && lens[slice] <= SMALL;
     }
@@ -110,13 +112,10 @@ static void lend_bytes(struct lent *lent, size_t len)
         lent_null(lent);
 }
 
-static void lend(struct lending *lending, const struct table *shape, const size_t lens[LENT])
+static void lend(struct lending *lending, midici_pe_shape shape, const size_t lens[LENT])
 {
     struct table *table = &lending->table;
-    table->max_peers = shape->max_peers;
-    table->header_bytes = shape->header_bytes;
-    table->tx_bytes = shape->tx_bytes;
-    table->fragment_records = shape->fragment_records;
+    table->shape = shape;
     for (int slice = 0; slice < LENT; slice++) {
         lend_bytes(&table->lent[slice], lens[slice]);
         lent_fill(&table->lent[slice]);
@@ -138,15 +137,14 @@ static void make_rooms(struct lending *lending, size_t len)
 struct lending *choose_lending(struct input *input)
 {
     static struct lending small, large;
-    struct table shape;
     size_t lens[LENT];
     if (small.table.lent[0].room == NULL) {
         make_rooms(&small, SMALL);
         make_rooms(&large, LARGE);
     }
-    choose_shape(input, &shape);
-    struct lending *lending = choose_lens(input, &shape, lens) ? &small : &large;
-    lend(lending, &shape, lens);
+    midici_pe_shape shape = choose_shape(input);
+    struct lending *lending = choose_lens(input, shape, lens) ? &small : &large;
+    lend(lending, shape, lens);
     return lending;
 }
 
@@ -162,9 +160,9 @@ static uint64_t scatter(uint64_t *seed)
 /* A word of a table's memory as somebody might have left it. */
 static uint64_t any_word(const struct table *table, uint64_t *seed)
 {
-    uint64_t choice = scatter(seed);
-    const uint64_t words[8] = {0, 1,     scatter(seed) % 6, table->header_bytes, table->tx_bytes, table->fragment_records,
-                               0, choice};
+    uint64_t choice = scatter(seed), few = scatter(seed) % 6;
+    midici_pe_shape shape = table->shape;
+    const uint64_t words[8] = {0, 1, few, shape.header_bytes, shape.tx_bytes, shape.fragment_records, 0, choice};
     return choice % 64 == 9 ? UINT64_MAX : words[choice >> 32 & 7];
 }
 
@@ -172,10 +170,10 @@ static uint64_t any_word(const struct table *table, uint64_t *seed)
 static void lay_records(struct table *table, size_t slot, uint64_t *seed)
 {
     uint64_t *words = lent_words(&table->lent[NUMBERS]) + slot_at(slot / SLOTS, slot % SLOTS);
-    uint64_t *index = lent_words(&table->lent[INDEX]) + room_at(table->fragment_records, slot / SLOTS, slot % SLOTS);
-    uint64_t held = scatter(seed) % (table->fragment_records + 1), offset = 0;
+    uint64_t *index = lent_words(&table->lent[INDEX]) + room_at(table->shape.fragment_records, slot / SLOTS, slot % SLOTS);
+    uint64_t held = scatter(seed) % (table->shape.fragment_records + 1), offset = 0;
     for (uint64_t i = 0; i < held; i++) {
-        uint64_t len = least(scatter(seed) % 8, table->tx_bytes - offset);
+        uint64_t len = least(scatter(seed) % 8, table->shape.tx_bytes - offset);
         uint64_t number = scatter(seed) % 16 == 0 ? scatter(seed) % 65536 : scatter(seed) % 6;
         index[i] = RECORD(number, len, offset);
         offset += len;
@@ -183,17 +181,17 @@ static void lay_records(struct table *table, size_t slot, uint64_t *seed)
     words[ACTIVE] = scatter(seed) % 8;
     words[REQUEST_ID] = scatter(seed) % 6;
     words[NUM_CHUNKS] = scatter(seed) % 8 == 0 ? any_word(table, seed) : scatter(seed) % 4;
-    words[HEADER_LEN] = scatter(seed) % (table->header_bytes + 1);
+    words[HEADER_LEN] = scatter(seed) % (table->shape.header_bytes + 1);
     words[INDEX_LEN] = held;
     words[PROPERTY_BYTES] = offset;
 }
 
 static bool is_lent_all(const struct table *table)
 {
-    if (!table_in_range(table))
+    if (!shape_in_range(table->shape))
         return false;
     for (int slice = 0; slice < LENT; slice++)
-        if (table->lent[slice].len < table_asks(table, slice))
+        if (table->lent[slice].len < shape_asks(table->shape, slice))
             return false;
     return true;
 }
@@ -208,8 +206,8 @@ void fill_table(struct input *input, struct table *table)
         if (!table_has_words(slice))
             lent_fill(lent);
     }
-    if (take(input) % 2 == 0 && is_lent_all(table) && table->fragment_records > 0)
-        for (size_t slot = 0; slot < SLOTS * table->max_peers; slot++)
+    if (take(input) % 2 == 0 && is_lent_all(table) && table->shape.fragment_records > 0)
+        for (size_t slot = 0; slot < SLOTS * table->shape.max_peers; slot++)
             if (scatter(&seed) % 4 != 0)
                 lay_records(table, slot, &seed);
 }
@@ -238,9 +236,9 @@ void choose_chunk(struct input *input, const struct table *table, struct lent *b
                                     : 2,
            property_len = take(input) % (odd < 200 ? 8 : 64), len = before;
     if (odd == 16 && number == 1)
-        header_len = least(table->header_bytes + 1, 5000);
+        header_len = least(table->shape.header_bytes + 1, 5000);
     if (odd == 17)
-        property_len = least(table->tx_bytes + 1, 10000);
+        property_len = least(table->shape.tx_bytes + 1, 10000);
     lent_resize(bytes, before + 9 + header_len + property_len);
     add_byte(bytes, &len, request_id);
     add_u14(bytes, &len, header_len);

@@ -49,7 +49,7 @@ static void check_fed(struct lending *lending, struct told fed)
 {
     struct table *table = &lending->table;
     size_t header_len = (size_t)fed.numbers[1], body_len = (size_t)fed.numbers[2];
-    must(header_len <= table->header_bytes && body_len <= table->tx_bytes, "a whole list fits");
+    must(header_len <= table->shape.header_bytes && body_len <= table->shape.tx_bytes, "a whole list fits");
     must(lent_same_from(&table->lent[OUT_HEADER], header_len), "bytes past the header stay");
     must(lent_same_from(&table->lent[OUT_BODY], body_len), "bytes past the body stay");
     must(fed.refusal == 0 || (lent_same_from(&table->lent[ARENAS], 0) && lent_same_from(&table->lent[INDEX], 0)),

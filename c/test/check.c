@@ -74,7 +74,7 @@ struct bytes message_of(uint8_t sub_id2, uint32_t source, uint32_t dest, const s
 void make_begun(struct table *table)
 {
     struct bytes first = chunk_of(FIRST), second = chunk_of((struct fields){5, "", 3, 2, "de"});
-    table_make(table, 2, 8, 32, 4, 0);
+    table_make(table, (midici_pe_shape){2, 8, 32, 4}, 0);
     check(table_new(table).refusal == 0, "a table is made", "setting up");
     check(table_feed(table, 1, first.at, first.len, 1000).refusal == 0, "chunk 1", "setting up");
     check(table_feed(table, 1, second.at, second.len, 1000).refusal == 0, "chunk 2", "setting up");

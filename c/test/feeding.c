@@ -162,7 +162,7 @@ static void check_left(struct table *table, uint32_t peer, struct bytes *chunk, 
 static void test_feed_case(const struct feed_case *c, bool in_messages)
 {
     struct table table;
-    table_make(&table, PEERS, HEADER_BYTES, TX_BYTES, RECORDS, EXTRA);
+    table_make(&table, (midici_pe_shape){PEERS, HEADER_BYTES, TX_BYTES, RECORDS}, EXTRA);
     table_new(&table);
     for (int i = 0; i < STEPS && c->steps[i].chunk.header != NULL; i++) {
         const struct step *step = &c->steps[i];

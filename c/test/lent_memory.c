@@ -47,11 +47,9 @@ static void test_shape(const struct call *call, int which, bool largest)
     const size_t most[4] = {MIDICI_PE_MAX_PEERS, MIDICI_PE_HEADER_BYTES, MIDICI_PE_TX_BYTES, MIDICI_PE_FRAGMENT_RECORDS};
     struct table table;
     make_begun(&table);
-    size_t number = largest ? SIZE_MAX : most[which] + 1;
-    table.max_peers = which == 0 ? number : table.max_peers;
-    table.header_bytes = which == 1 ? number : table.header_bytes;
-    table.tx_bytes = which == 2 ? number : table.tx_bytes;
-    table.fragment_records = which == 3 ? number : table.fragment_records;
+    midici_pe_shape *shape = &table.shape;
+    size_t *numbers[4] = {&shape->max_peers, &shape->header_bytes, &shape->tx_bytes, &shape->fragment_records};
+    *numbers[which] = largest ? SIZE_MAX : most[which] + 1;
     table_keep(&table);
     check(refusal_of(call, &table, true) == 30, "a shape out of range is refused before all else", call->name);
     check(table_same(&table), "everything stays", call->name);
@@ -89,7 +87,7 @@ static void test_wrong_peer(const struct call *call)
 static void test_no_peers(const struct call *call)
 {
     struct table table;
-    table_make(&table, 0, 0, 0, 0, 0);
+    table_make(&table, (midici_pe_shape){0, 0, 0, 0}, 0);
     for (int slice = INDEX; slice < LENT; slice++)
         lent_null(&table.lent[slice]);
     check(table_new(&table).refusal == 0, "a table of no peers is made", call->name);
@@ -125,7 +123,7 @@ static void test_longest(void)
     midici_pe_answer cut = midici_pe_split_chunk(5, NULL, 0, body, sizeof body, UINT32_MAX, 1,
                                                  out + MIDICI_PE_CI_HEADER_LEN, sizeof out - MIDICI_PE_CI_HEADER_LEN);
     check(cut.refusal == 0 && cut.count == MIDICI_PE_CHUNK_LEN, "the longest chunk", "lengths");
-    table_make(&table, 1, 0, MIDICI_PE_CHUNK_LEN, 1, 0);
+    table_make(&table, (midici_pe_shape){1, 0, MIDICI_PE_CHUNK_LEN, 1}, 0);
     table_new(&table);
     midici_pe_fed fed = table_feed_message(&table, out, sizeof out, 0);
     check(fed.refusal == 0 && fed.whole == 0, "the longest message is taken", "lengths");
@@ -137,7 +135,7 @@ static void test_no_rooms(void)
 {
     struct table table;
     const uint8_t empty[9] = {5, 0, 0, 1, 0, 1, 0, 0, 0};
-    table_make(&table, 1, 0, 0, 1, 0);
+    table_make(&table, (midici_pe_shape){1, 0, 0, 1}, 0);
     for (int slice = HEADERS; slice <= OUT_BODY; slice++)
         lent_null(&table.lent[slice]);
     check(table_new(&table).refusal == 0, "a table without rooms is made", "no rooms");
@@ -149,7 +147,7 @@ static void test_no_rooms(void)
     check(table_feed(&table, 1, chunk.at, chunk.len, 0).refusal == 5, "no room for a body", "no rooms");
     check(table_guarded(&table), "nothing is written before a slice", "no rooms");
     table_free(&table);
-    table_make(&table, 1, 0, 0, 0, 0);
+    table_make(&table, (midici_pe_shape){1, 0, 0, 0}, 0);
     for (int slice = INDEX; slice <= OUT_BODY; slice++)
         lent_null(&table.lent[slice]);
     check(table_new(&table).refusal == 0, "a table without records is made", "no rooms");
@@ -220,7 +218,7 @@ static void test_no_table(void)
 {
     struct table table;
     struct bytes first = chunk_of(FIRST), second = chunk_of((struct fields){5, "", 3, 2, "de"});
-    table_make(&table, 2, HEADER_BYTES, TX_BYTES, RECORDS, 0);
+    table_make(&table, (midici_pe_shape){2, HEADER_BYTES, TX_BYTES, RECORDS}, 0);
     table_keep(&table);
     check(table_feed(&table, 1, first.at, first.len, 0).refusal == 7, "every record looks taken", "memory without a table");
     check(table_same(&table), "everything stays", "memory without a table");
@@ -235,7 +233,7 @@ static void test_no_table(void)
           "memory without a table");
     check(table_new(&table).refusal == 0, "a table is made", "memory without a table");
     check(table_feed(&table, 1, first.at, first.len, 0).refusal == 0, "and takes chunks", "memory without a table");
-    table.fragment_records = 0;
+    table.shape.fragment_records = 0;
     table_keep(&table);
     check_refused(&table, table_feed(&table, 1, second.at, second.len, 0), 31, 0, "another shape");
     table_free(&table);

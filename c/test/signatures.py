@@ -1,8 +1,8 @@
 #!/usr/bin/env python3
 """signatures.py: prints a C file that is an error wherever include/midici_pe.h and the Rattle source disagree.
 
-It reads the exports and their structs from crates/hub and hub_message, the refusals' numbers and the sizes from the crates
-below them.
+It reads the exports and their structs from crates/hub and hub_message, the struct of a shape, the refusals' numbers and the
+sizes from the crates below them.
 For each export it prints a pointer of the type that the source says, set to the function that the header declares; for
 each struct, refusal and size an assertion. What a compiler does not see is compared here: the names of parameters, and
 that neither side has a function or a refusal that the other lacks."""
@@ -14,7 +14,7 @@ ROOT = pathlib.Path(__file__).resolve().parent.parent.parent
 HEADER = ROOT / 'include' / 'midici_pe.h'
 TYPES = {'u8': ('uint8_t', 1), 'u16': ('uint16_t', 2), 'u32': ('uint32_t', 4), 'u64': ('uint64_t', 8), 'usize': ('size_t', 8)}
 STRUCTS = {'Answer': 'midici_pe_answer', 'FedAnswer': 'midici_pe_fed', 'StatsAnswer': 'midici_pe_stats',
-           'RequestId': 'midici_pe_request_id'}
+           'RequestId': 'midici_pe_request_id', 'Shape': 'midici_pe_shape'}
 
 
 def wrong(what):
@@ -39,6 +39,8 @@ def c_parameters(text):
             yield f'size_t {name}_len'
         elif kind in TYPES:
             yield f'{TYPES[kind][0]} {name}'
+        elif kind in STRUCTS:
+            yield f'{STRUCTS[kind]} {name}'
         else:
             wrong(f'parameter {name} has type {kind}, for which no C type is known here')
 
@@ -117,7 +119,7 @@ for function, (result, parameters) in functions.items():
 for function in re.findall(r'\b(\w+)\([^()]*\);', header):
     if function not in functions:
         wrong(f'{HEADER.name} declares {function}, which neither crates/hub nor hub_message exports')
-print_structs(hub)
+print_structs(hub + source('pe_reassembler/src/shape.rt'))
 refusals = print_refusals('pe_wire/src/error.rt', 'PeError', 'MIDICI_PE_')
 refusals += print_refusals('midici_core/src/error.rt', 'CiError', 'MIDICI_PE_CI_')
 if len(re.findall(r'\bMIDICI_PE_\w+ = [1-9]', header)) != refusals:

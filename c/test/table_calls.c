@@ -16,7 +16,7 @@ static void open_one(struct table *table, uint32_t peer, uint8_t request_id, uin
 /* Four lists: two of peer 1 and two of peer 2, opened in this order at the times 1000, 1001, 1002, 1003. */
 static void make_open(struct table *table)
 {
-    table_make(table, PEERS, HEADER_BYTES, TX_BYTES, RECORDS, EXTRA);
+    table_make(table, (midici_pe_shape){PEERS, HEADER_BYTES, TX_BYTES, RECORDS}, EXTRA);
     check(table_new(table).refusal == 0, "a table is made", "setting up");
     open_one(table, 1, 11, 1000);
     open_one(table, 2, 21, 1001);
@@ -27,7 +27,7 @@ static void make_open(struct table *table)
 static void test_new(void)
 {
     struct table table;
-    table_make(&table, PEERS, HEADER_BYTES, TX_BYTES, RECORDS, EXTRA);
+    table_make(&table, (midici_pe_shape){PEERS, HEADER_BYTES, TX_BYTES, RECORDS}, EXTRA);
     table_keep(&table);
     midici_pe_answer answer = table_new(&table);
     const uint64_t *numbers = lent_words(&table.lent[NUMBERS]), *index = lent_words(&table.lent[INDEX]);
@@ -40,7 +40,7 @@ static void test_new(void)
     check(empty, "the numbers and records of an empty table", "new");
     for (int slice = 0; slice < LENT; slice++) {
         bool is_written = slice == NUMBERS || slice == INDEX;
-        size_t from = is_written ? table_asks(&table, slice) : 0;
+        size_t from = is_written ? shape_asks(table.shape, slice) : 0;
         check(lent_same_from(&table.lent[slice], from), "all else stays", "new");
     }
     check(table_guarded(&table), "nothing is written before a slice", "new");
@@ -141,7 +141,7 @@ static void test_poll_back(void)
 {
     struct table table;
     const uint64_t peers[] = {1, 2}, ids[] = {11, 21};
-    table_make(&table, PEERS, HEADER_BYTES, TX_BYTES, RECORDS, EXTRA);
+    table_make(&table, (midici_pe_shape){PEERS, HEADER_BYTES, TX_BYTES, RECORDS}, EXTRA);
     table_new(&table);
     open_one(&table, 1, 11, 5000);
     open_one(&table, 2, 21, 1000);
@@ -209,7 +209,7 @@ static void test_large_totals(void)
         {UINT64_MAX, UINT64_MAX, UINT64_MAX, UINT64_MAX},
     };
     struct table table;
-    table_make(&table, 1, HEADER_BYTES, TX_BYTES, RECORDS, 0);
+    table_make(&table, (midici_pe_shape){1, HEADER_BYTES, TX_BYTES, RECORDS}, 0);
     table_new(&table);
     open_one(&table, 1, 1, 0);
     uint64_t *slot = lent_words(&table.lent[NUMBERS]) + slot_at(0, 0);
@@ -225,14 +225,17 @@ static void test_large_totals(void)
 /* The rooms of tables of other shapes. */
 static void test_reserved_bytes(void)
 {
-    const size_t shapes[][5] = {
-        {0, 4096, 65536, 2048, 0}, {16, 4096, 65536, 2048, 5505024}, {1, 0, 0, 0, 0}, {3, 1, 0, 0, 12}, {3, 0, 1, 0, 12},
-        {3, 0, 0, 1, 96},
+    const struct {
+        midici_pe_shape shape;
+        uint64_t bytes;
+    } cases[] = {
+        {{0, 4096, 65536, 2048}, 0}, {{16, 4096, 65536, 2048}, 5505024},
+        {{1, 0, 0, 0}, 0},           {{3, 1, 0, 0}, 12},
+        {{3, 0, 1, 0}, 12},          {{3, 0, 0, 1}, 96},
     };
-    for (size_t i = 0; i < sizeof shapes / sizeof shapes[0]; i++) {
-        const size_t *shape = shapes[i];
-        midici_pe_answer answer = midici_pe_reserved_bytes(shape[0], shape[1], shape[2], shape[3]);
-        check(answer.refusal == 0 && answer.count == shape[4], "the rooms", "reserved bytes");
+    for (size_t i = 0; i < sizeof cases / sizeof cases[0]; i++) {
+        midici_pe_answer answer = midici_pe_reserved_bytes(cases[i].shape);
+        check(answer.refusal == 0 && answer.count == cases[i].bytes, "the rooms", "reserved bytes");
     }
 }
 
@@ -240,7 +243,7 @@ static void test_reserved_bytes(void)
 static void test_ticks(void)
 {
     struct table table;
-    table_make(&table, PEERS, HEADER_BYTES, TX_BYTES, RECORDS, 0);
+    table_make(&table, (midici_pe_shape){PEERS, HEADER_BYTES, TX_BYTES, RECORDS}, 0);
     table_new(&table);
     const uint64_t *numbers = lent_words(&table.lent[NUMBERS]);
     open_one(&table, 1, 11, 0);
@@ -280,7 +283,9 @@ static void feed_full(struct table *table, uint32_t peer, size_t first, uint8_t 
 static void test_full_size(void)
 {
     struct table table;
-    table_make(&table, MIDICI_PE_MAX_PEERS, MIDICI_PE_HEADER_BYTES, MIDICI_PE_TX_BYTES, MIDICI_PE_FRAGMENT_RECORDS, 0);
+    const midici_pe_shape largest = {MIDICI_PE_MAX_PEERS, MIDICI_PE_HEADER_BYTES, MIDICI_PE_TX_BYTES,
+                                     MIDICI_PE_FRAGMENT_RECORDS};
+    table_make(&table, largest, 0);
     check(table_new(&table).refusal == 0, "the largest table", "full size");
     for (uint32_t peer = 0; peer < 16; peer++)
         for (uint8_t id = 0; id < 4; id++)
@@ -305,7 +310,7 @@ static void test_most_chunks(bool gap)
     const char *of = gap ? "most chunks, with gaps" : "most chunks";
     struct table table;
     midici_pe_fed answer = {.whole = 0};
-    table_make(&table, 1, 0, MIDICI_PE_TX_BYTES, MOST, 0);
+    table_make(&table, (midici_pe_shape){1, 0, MIDICI_PE_TX_BYTES, MOST}, 0);
     table_new(&table);
     for (unsigned n = MOST; n >= 1; n--) {
         struct bytes chunk = {.len = 0};

@@ -13,11 +13,6 @@ use Rattle.hub.specs.declared.answer.Answer.{Answer}
 use Rattle.hub.specs.declared.answer.FedAnswer.{FedAnswer}
 use Rattle.hub.specs.Answers.{answerOf, fedAnswerOf, asCount, Left, left}
 
--- A shape is four numbers.
-abbrev pub shapeOf : ℕ → ℕ → ℕ → ℕ → Shape
-shapeOf max-peers header-bytes tx-bytes fragment-records =
-    record { «max_peers» = max-peers; «header_bytes» = header-bytes; «tx_bytes» = tx-bytes; «fragment_records» = fragment-records }
-
 abbrev pub madeOf : Fresh → Left Answer (List ℕ × List ℕ)
 madeOf f = left (answerOf (f .answer)) (f .numbers, f .index)
 

@@ -1,4 +1,4 @@
-// The reassembler's calls, but for the whole-message entry (crate hub_message). A shape is four numbers, and the memory of a table is lent with each call.
+// The reassembler's calls, but for the whole-message entry (crate hub_message). Shape and memory of a table are named with each call.
 use crate::answer::Answer;
 use crate::answer::FedAnswer;
 use crate::answer::StatsAnswer;
@@ -17,51 +17,28 @@ ghost use Rattle.pe_reassembler.specs.Calls.{newCall, cancelCall, dropCall, sta
 ghost use Rattle.pe_reassembler.specs.Feed.{memory, feedCall};
 ghost use Rattle.pe_reassembler.specs.Poll.{pollCall};
 ghost use Rattle.hub.specs.Answers.{answerOf, statsAnswerOf, left};
-ghost use Rattle.hub.specs.Table.{shapeOf, madeOf, cancelledOf, droppedOf, fedOf, polledOf, OpenListed};
-
-pub fn shape_of(
-    max_peers: usize,
-    header_bytes: usize,
-    tx_bytes: usize,
-    fragment_records: usize,
-) -> Shape
-    ensures { λ r. ⌜ r ≡ shapeOf «max_peers» «header_bytes» «tx_bytes» «fragment_records» ⌝ }
-{
-    Shape {
-        max_peers,
-        header_bytes,
-        tx_bytes,
-        fragment_records,
-    }
-}
+ghost use Rattle.hub.specs.Table.{madeOf, cancelledOf, droppedOf, fedOf, polledOf, OpenListed};
 
 // Makes a table in the lent memory; the rooms keep their bytes.
 #[no_mangle]
 pub extern "C" fn midici_pe_new(
-    max_peers: usize,
-    header_bytes: usize,
-    tx_bytes: usize,
-    fragment_records: usize,
+    shape: Shape,
     numbers: &mut [u64],
     index: &mut [u64],
     headers: &[u8],
     arenas: &[u8],
 ) -> Answer
     ensures { λ r. ⌜ left r (now (numbers .exit), now (index .exit))
-        ≡ madeOf (newCall (shapeOf «max_peers» «header_bytes» «tx_bytes» «fragment_records») (now (numbers .entry)) (now (index .entry))
+        ≡ madeOf (newCall shape (now (numbers .entry)) (now (index .entry))
         (now (headers .entry)) (now (arenas .entry))) ⌝ }
 {
-    let shape = shape_of(max_peers, header_bytes, tx_bytes, fragment_records);
     made(calls::new(shape, numbers, index, headers, arenas))
 }
 
 // Feeds a chunk of a peer; a whole list goes into the two outputs.
 #[no_mangle]
 pub extern "C" fn midici_pe_feed(
-    max_peers: usize,
-    header_bytes: usize,
-    tx_bytes: usize,
-    fragment_records: usize,
+    shape: Shape,
     numbers: &mut [u64],
     index: &mut [u64],
     headers: &mut [u8],
@@ -74,11 +51,10 @@ pub extern "C" fn midici_pe_feed(
 ) -> FedAnswer
     ensures { λ r. ⌜ left r (memory (now (numbers .exit)) (now (index .exit)) (now (headers .exit)) (now (arenas .exit))
         (now («out_header» .exit)) (now («out_body» .exit)))
-        ≡ fedOf (feedCall (shapeOf «max_peers» «header_bytes» «tx_bytes» «fragment_records»)
+        ≡ fedOf (feedCall shape
         (memory (now (numbers .entry)) (now (index .entry)) (now (headers .entry)) (now (arenas .entry)) (now («out_header» .entry))
         (now («out_body» .entry))) peer (now («raw_chunk» .entry)) «now_ms») ⌝ }
 {
-    let shape = shape_of(max_peers, header_bytes, tx_bytes, fragment_records);
     fed(feed::feed(
         shape,
         numbers,
@@ -96,104 +72,71 @@ pub extern "C" fn midici_pe_feed(
 // Closes the slot of a peer that is open with a request id: 1 where there was one, else 0.
 #[no_mangle]
 pub extern "C" fn midici_pe_cancel(
-    max_peers: usize,
-    header_bytes: usize,
-    tx_bytes: usize,
-    fragment_records: usize,
+    shape: Shape,
     numbers: &mut [u64],
     peer: u32,
     request_id: u8,
 ) -> Answer
     ensures { λ r. ⌜ left r (now (numbers .exit))
-        ≡ cancelledOf (cancelCall (shapeOf «max_peers» «header_bytes» «tx_bytes» «fragment_records») (now (numbers .entry)) peer
+        ≡ cancelledOf (cancelCall shape (now (numbers .entry)) peer
         «request_id») ⌝ }
 {
-    let shape = shape_of(max_peers, header_bytes, tx_bytes, fragment_records);
     cancelled(calls::cancel(shape, numbers, peer, request_id))
 }
 
 // Closes all slots of a peer and unbinds its record: how many there were.
 #[no_mangle]
-pub extern "C" fn midici_pe_drop_peer(
-    max_peers: usize,
-    header_bytes: usize,
-    tx_bytes: usize,
-    fragment_records: usize,
-    numbers: &mut [u64],
-    peer: u32,
-) -> Answer
+pub extern "C" fn midici_pe_drop_peer(shape: Shape, numbers: &mut [u64], peer: u32) -> Answer
     ensures { λ r. ⌜ left r (now (numbers .exit))
-        ≡ droppedOf (dropCall (shapeOf «max_peers» «header_bytes» «tx_bytes» «fragment_records») (now (numbers .entry)) peer) ⌝ }
+        ≡ droppedOf (dropCall shape (now (numbers .entry)) peer) ⌝ }
 {
-    let shape = shape_of(max_peers, header_bytes, tx_bytes, fragment_records);
     number_counted(calls::drop_peer(shape, numbers, peer))
 }
 
 // Closes each slot whose time is up, and lists its peer and request id: how many there are.
 #[no_mangle]
 pub extern "C" fn midici_pe_poll(
-    max_peers: usize,
-    header_bytes: usize,
-    tx_bytes: usize,
-    fragment_records: usize,
+    shape: Shape,
     numbers: &mut [u64],
     now_ms: u64,
     out_peers: &mut [u64],
     out_request_ids: &mut [u64],
 ) -> Answer
     ensures { λ r. ⌜ left r (now (numbers .exit), now («out_peers» .exit), now («out_request_ids» .exit))
-        ≡ polledOf (pollCall (shapeOf «max_peers» «header_bytes» «tx_bytes» «fragment_records») (now (numbers .entry)) «now_ms»
+        ≡ polledOf (pollCall shape (now (numbers .entry)) «now_ms»
         (now («out_peers» .entry)) (now («out_request_ids» .entry))) ⌝ }
 {
-    let shape = shape_of(max_peers, header_bytes, tx_bytes, fragment_records);
     number_counted(poll::poll(shape, numbers, now_ms, out_peers, out_request_ids))
 }
 
 // Lists peer, request id and chunks held of each open slot, in any order: how many there are.
 #[no_mangle]
 pub extern "C" fn midici_pe_open_list(
-    max_peers: usize,
-    header_bytes: usize,
-    tx_bytes: usize,
-    fragment_records: usize,
+    shape: Shape,
     numbers: &[u64],
     out_peers: &mut [u64],
     out_request_ids: &mut [u64],
     out_chunks_held: &mut [u64],
 ) -> Answer
-    ensures { λ r. ⌜ OpenListed (shapeOf «max_peers» «header_bytes» «tx_bytes» «fragment_records») (now (numbers .entry))
+    ensures { λ r. ⌜ OpenListed shape (now (numbers .entry))
         (now («out_peers» .entry)) (now («out_request_ids» .entry)) (now («out_chunks_held» .entry))
         (left r (now («out_peers» .exit), now («out_request_ids» .exit), now («out_chunks_held» .exit))) ⌝ }
 {
-    let shape = shape_of(max_peers, header_bytes, tx_bytes, fragment_records);
     number_counted(open::open_list(shape, numbers, out_peers, out_request_ids, out_chunks_held))
 }
 
 // What the rooms take and what is open in them.
 #[no_mangle]
-pub extern "C" fn midici_pe_memory_stats(
-    max_peers: usize,
-    header_bytes: usize,
-    tx_bytes: usize,
-    fragment_records: usize,
-    numbers: &[u64],
-) -> StatsAnswer
-    ensures { λ r. ⌜ r ≡ statsAnswerOf (statsCall (shapeOf «max_peers» «header_bytes» «tx_bytes» «fragment_records») (now (numbers .entry))) ⌝ }
+pub extern "C" fn midici_pe_memory_stats(shape: Shape, numbers: &[u64]) -> StatsAnswer
+    ensures { λ r. ⌜ r ≡ statsAnswerOf (statsCall shape (now (numbers .entry))) ⌝ }
 {
-    let shape = shape_of(max_peers, header_bytes, tx_bytes, fragment_records);
     stats(calls::memory_stats(shape, numbers))
 }
 
 // The bytes that the rooms of a table take.
 #[no_mangle]
-pub extern "C" fn midici_pe_reserved_bytes(
-    max_peers: usize,
-    header_bytes: usize,
-    tx_bytes: usize,
-    fragment_records: usize,
-) -> Answer
-    ensures { λ r. ⌜ r ≡ answerOf (reservedCall (shapeOf «max_peers» «header_bytes» «tx_bytes» «fragment_records»)) ⌝ }
+pub extern "C" fn midici_pe_reserved_bytes(shape: Shape) -> Answer
+    ensures { λ r. ⌜ r ≡ answerOf (reservedCall shape) ⌝ }
 {
-    let shape = shape_of(max_peers, header_bytes, tx_bytes, fragment_records);
     number_counted(calls::reserved_bytes(shape))
 }

@@ -2,20 +2,17 @@
 // place that calls it, so each of the two entries has the feed built in.
 use hub::answer::FedAnswer;
 use hub::answer::fed;
-use hub::table::shape_of;
 use pe_reassembler::feed::feed_message;
+use pe_reassembler::shape::Shape;
 ghost use mathlib.Core.Path.{_≡_};
 ghost use Rattle.pe_reassembler.specs.Feed.{memory, messageCall};
 ghost use Rattle.hub.specs.Answers.{left};
-ghost use Rattle.hub.specs.Table.{shapeOf, fedOf};
+ghost use Rattle.hub.specs.Table.{fedOf};
 
 // Feeds the chunk of a whole CI message under its source.
 #[no_mangle]
 pub extern "C" fn midici_pe_feed_message(
-    max_peers: usize,
-    header_bytes: usize,
-    tx_bytes: usize,
-    fragment_records: usize,
+    shape: Shape,
     numbers: &mut [u64],
     index: &mut [u64],
     headers: &mut [u8],
@@ -27,11 +24,10 @@ pub extern "C" fn midici_pe_feed_message(
 ) -> FedAnswer
     ensures { λ r. ⌜ left r (memory (now (numbers .exit)) (now (index .exit)) (now (headers .exit)) (now (arenas .exit))
         (now («out_header» .exit)) (now («out_body» .exit)))
-        ≡ fedOf (messageCall (shapeOf «max_peers» «header_bytes» «tx_bytes» «fragment_records»)
+        ≡ fedOf (messageCall shape
         (memory (now (numbers .entry)) (now (index .entry)) (now (headers .entry)) (now (arenas .entry)) (now («out_header» .entry))
         (now («out_body» .entry))) (now (body .entry)) «now_ms») ⌝ }
 {
-    let shape = shape_of(max_peers, header_bytes, tx_bytes, fragment_records);
     fed(feed_message(
         shape,
         numbers,

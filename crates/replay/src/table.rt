@@ -12,18 +12,20 @@ use crate::print_value;
 use crate::u8_at;
 use crate::u32_at;
 use crate::u64_at;
+use pe_reassembler::shape::Shape;
+use pe_slot::layout::MAX_FRAGMENT_RECORDS;
+use pe_slot::layout::MAX_HEADER_BYTES;
+use pe_slot::layout::MAX_TX_BYTES;
 
-// The shape, by document 01's letters.
-const N: usize = 1;
-
-const H: usize = 4096;
-
-const B: usize = 65_536;
-
-const R: usize = 2048;
+const SHAPE: Shape = Shape {
+    max_peers: 1,
+    header_bytes: MAX_HEADER_BYTES,
+    tx_bytes: MAX_TX_BYTES,
+    fragment_records: MAX_FRAGMENT_RECORDS,
+};
 
 pub(crate) fn new(numbers: &mut [u64], index: &mut [u64], headers: &[u8], arenas: &[u8]) {
-    let answer = hub::table::midici_pe_new(N, H, B, R, numbers, index, headers, arenas);
+    let answer = hub::table::midici_pe_new(SHAPE, numbers, index, headers, arenas);
     print_answer(answer);
     print_out(b"");
 }
@@ -38,10 +40,7 @@ pub(crate) fn feed(
     let mut out_header = [0u8; 4096];
     let mut out_body = [0u8; 65536];
     let answer = hub::table::midici_pe_feed(
-        N,
-        H,
-        B,
-        R,
+        SHAPE,
         numbers,
         index,
         headers,
@@ -67,12 +66,12 @@ pub(crate) fn feed(
 }
 
 pub(crate) fn cancel(s: &[u8], numbers: &mut [u64]) {
-    print_answer(hub::table::midici_pe_cancel(N, H, B, R, numbers, u32_at(s, 0), u8_at(s, 4)));
+    print_answer(hub::table::midici_pe_cancel(SHAPE, numbers, u32_at(s, 0), u8_at(s, 4)));
     print_out(b"");
 }
 
 pub(crate) fn drop_peer(s: &[u8], numbers: &mut [u64]) {
-    print_answer(hub::table::midici_pe_drop_peer(N, H, B, R, numbers, u32_at(s, 0)));
+    print_answer(hub::table::midici_pe_drop_peer(SHAPE, numbers, u32_at(s, 0)));
     print_out(b"");
 }
 
@@ -88,10 +87,7 @@ pub(crate) fn poll(s: &[u8], numbers: &mut [u64]) {
     let mut peers = [0u64; 4];
     let mut request_ids = [0u64; 4];
     let answer = hub::table::midici_pe_poll(
-        N,
-        H,
-        B,
-        R,
+        SHAPE,
         numbers,
         u64_at(s, 0),
         &mut peers,
@@ -106,7 +102,7 @@ pub(crate) fn poll(s: &[u8], numbers: &mut [u64]) {
 }
 
 pub(crate) fn memory_stats(numbers: &mut [u64]) {
-    let answer = hub::table::midici_pe_memory_stats(N, H, B, R, numbers);
+    let answer = hub::table::midici_pe_memory_stats(SHAPE, numbers);
     print_value(answer.reserved_bytes);
     print_value(answer.active_bytes);
     print_value(answer.active_slots);

@@ -1,15 +1,12 @@
 use borrow.Author.Needs.{needs}
 use Rattle.hub.proofs.table.midici_pe_cancel.Statement.{statement}
 use Rattle.hub.proofs.table.midici_pe_cancel.Tie as tie
-use mathlib.Core.Path.{sym, ap}
+use mathlib.Core.Path.{ap}
 use Rattle.hub.specs.Table.{cancelledOf}
 use Rattle.hub.proofs.AnswerLaws.{leaves}
 
 abbrev called : tie.After-cancelled → tie.After-cancel
 called c = c .before .before .before
-
-shape-of-requires : tie.Need-shape-of-requires
-shape-of-requires c κs = search needs
 
 cancel-requires : tie.Need-cancel-requires
 cancel-requires c κs = search needs
@@ -21,9 +18,7 @@ same-length : tie.Need-same-length
 same-length c = search needs
 
 returns : tie.Need-returns
-returns c =
-    rw (sym (called c .before .before .shape-of .ensures))
-    (leaves _ _ _ (c .cancelled .ensures) (ap cancelledOf (called c .cancel .ensures)))
+returns c = leaves _ _ _ (c .cancelled .ensures) (ap cancelledOf (called c .cancel .ensures))
 
 pub midici-pe-cancel-spec : {M : Type 1} → statement M
-midici-pe-cancel-spec = tie.close (tie.spec shape-of-requires cancel-requires cancelled-requires same-length returns)
+midici-pe-cancel-spec = tie.close (tie.spec cancel-requires cancelled-requires same-length returns)

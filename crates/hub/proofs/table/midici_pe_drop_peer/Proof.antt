@@ -1,15 +1,12 @@
 use borrow.Author.Needs.{needs}
 use Rattle.hub.proofs.table.midici_pe_drop_peer.Statement.{statement}
 use Rattle.hub.proofs.table.midici_pe_drop_peer.Tie as tie
-use mathlib.Core.Path.{sym, ap}
+use mathlib.Core.Path.{ap}
 use Rattle.hub.specs.Table.{droppedOf}
 use Rattle.hub.proofs.AnswerLaws.{leaves}
 
 abbrev called : tie.After-number-counted → tie.After-drop-peer
 called c = c .before .before .before
-
-shape-of-requires : tie.Need-shape-of-requires
-shape-of-requires c κs = search needs
 
 drop-peer-requires : tie.Need-drop-peer-requires
 drop-peer-requires c κs = search needs
@@ -21,10 +18,8 @@ same-length : tie.Need-same-length
 same-length c = search needs
 
 returns : tie.Need-returns
-returns c =
-    rw (sym (called c .before .before .shape-of .ensures))
-    (leaves _ _ _ (c .number-counted .ensures) (ap droppedOf (called c .drop-peer .ensures)))
+returns c = leaves _ _ _ (c .number-counted .ensures) (ap droppedOf (called c .drop-peer .ensures))
 
 pub midici-pe-drop-peer-spec : {M : Type 1} → statement M
 midici-pe-drop-peer-spec =
-    tie.close (tie.spec shape-of-requires drop-peer-requires number-counted-requires same-length returns)
+    tie.close (tie.spec drop-peer-requires number-counted-requires same-length returns)

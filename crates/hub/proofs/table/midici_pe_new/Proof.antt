@@ -1,15 +1,12 @@
 use borrow.Author.Needs.{needs}
 use Rattle.hub.proofs.table.midici_pe_new.Statement.{statement}
 use Rattle.hub.proofs.table.midici_pe_new.Tie as tie
-use mathlib.Core.Path.{sym, ap}
+use mathlib.Core.Path.{ap}
 use Rattle.hub.specs.Table.{madeOf}
 use Rattle.hub.proofs.AnswerLaws.{leaves}
 
 abbrev called : tie.After-made → tie.After-new
 called c = c .before .before .before .before .before
-
-shape-of-requires : tie.Need-shape-of-requires
-shape-of-requires c κs = search needs
 
 new-requires : tie.Need-new-requires
 new-requires c κs = search needs
@@ -24,10 +21,8 @@ same-length-2 : tie.Need-same-length-2
 same-length-2 c = search needs
 
 returns : tie.Need-returns
-returns c =
-    rw (sym (called c .before .before .before .shape-of .ensures))
-    (leaves _ _ _ (c .made .ensures) (ap madeOf (called c .new .ensures)))
+returns c = leaves _ _ _ (c .made .ensures) (ap madeOf (called c .new .ensures))
 
 pub midici-pe-new-spec : {M : Type 1} → statement M
 midici-pe-new-spec =
-    tie.close (tie.spec shape-of-requires new-requires made-requires same-length same-length-2 returns)
+    tie.close (tie.spec new-requires made-requires same-length same-length-2 returns)

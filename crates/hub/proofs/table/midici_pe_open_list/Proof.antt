@@ -1,14 +1,10 @@
 use borrow.Author.Needs.{needs}
 use Rattle.hub.proofs.table.midici_pe_open_list.Statement.{statement}
 use Rattle.hub.proofs.table.midici_pe_open_list.Tie as tie
-use mathlib.Core.Path.{sym}
 use Rattle.hub.proofs.AnswerLaws.{lists}
 
 abbrev called : tie.After-number-counted → tie.After-open-list
 called c = c .before .before .before .before .before .before .before
-
-shape-of-requires : tie.Need-shape-of-requires
-shape-of-requires c κs = search needs
 
 open-list-requires : tie.Need-open-list-requires
 open-list-requires c κs = search needs
@@ -26,15 +22,12 @@ same-length-3 : tie.Need-same-length-3
 same-length-3 c = search needs
 
 returns : tie.Need-returns
-returns c =
-    rw (sym (called c .before .before .before .before .shape-of .ensures))
-    (lists _ _ _ _ _ (c .number-counted .ensures) (called c .open-list .ensures))
+returns c = lists _ _ _ _ _ (c .number-counted .ensures) (called c .open-list .ensures)
 
 pub midici-pe-open-list-spec : {M : Type 1} → statement M
 midici-pe-open-list-spec =
     tie.close
     (tie.spec
-    shape-of-requires
     open-list-requires
     number-counted-requires
     same-length

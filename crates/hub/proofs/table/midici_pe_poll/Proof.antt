@@ -1,15 +1,12 @@
 use borrow.Author.Needs.{needs}
 use Rattle.hub.proofs.table.midici_pe_poll.Statement.{statement}
 use Rattle.hub.proofs.table.midici_pe_poll.Tie as tie
-use mathlib.Core.Path.{sym, ap}
+use mathlib.Core.Path.{ap}
 use Rattle.hub.specs.Table.{polledOf}
 use Rattle.hub.proofs.AnswerLaws.{leaves}
 
 abbrev called : tie.After-number-counted → tie.After-poll
 called c = c .before .before .before .before .before .before .before
-
-shape-of-requires : tie.Need-shape-of-requires
-shape-of-requires c κs = search needs
 
 poll-requires : tie.Need-poll-requires
 poll-requires c κs = search needs
@@ -27,15 +24,12 @@ same-length-3 : tie.Need-same-length-3
 same-length-3 c = search needs
 
 returns : tie.Need-returns
-returns c =
-    rw (sym (called c .before .before .before .before .shape-of .ensures))
-    (leaves _ _ _ (c .number-counted .ensures) (ap polledOf (called c .poll .ensures)))
+returns c = leaves _ _ _ (c .number-counted .ensures) (ap polledOf (called c .poll .ensures))
 
 pub midici-pe-poll-spec : {M : Type 1} → statement M
 midici-pe-poll-spec =
     tie.close
     (tie.spec
-    shape-of-requires
     poll-requires
     number-counted-requires
     same-length

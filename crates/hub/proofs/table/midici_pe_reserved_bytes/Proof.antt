@@ -2,9 +2,6 @@ use borrow.Author.Needs.{needs}
 use Rattle.hub.proofs.table.midici_pe_reserved_bytes.Statement.{statement}
 use Rattle.hub.proofs.table.midici_pe_reserved_bytes.Tie as tie
 
-shape-of-requires : tie.Need-shape-of-requires
-shape-of-requires c κs = search needs
-
 reserved-bytes-requires : tie.Need-reserved-bytes-requires
 reserved-bytes-requires c κs = search needs
 
@@ -16,4 +13,4 @@ returns c = cc
 
 pub midici-pe-reserved-bytes-spec : {M : Type 1} → statement M
 midici-pe-reserved-bytes-spec =
-    tie.close (tie.spec shape-of-requires reserved-bytes-requires number-counted-requires returns)
+    tie.close (tie.spec reserved-bytes-requires number-counted-requires returns)
