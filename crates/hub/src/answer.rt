@@ -11,10 +11,9 @@ ghost use mathlib.Core.Path.{_≡_};
 ghost use Rattle.seven_bit.specs.Reply.{granted, refused};
 ghost use Rattle.pe_wire.specs.Errors.{peNumber, peValue};
 ghost use Rattle.pe_wire.specs.Wire.{encodedTold};
-ghost use Rattle.pe_chunker.specs.Cut.{countTold};
+ghost use Rattle.pe_chunker.specs.Cut.{chunkCountTold};
 ghost use Rattle.pe_slot.specs.Feed.{fedTold};
-ghost use Rattle.pe_reassembler.specs.Calls.{madeTold, cancelledTold, statsTold};
-ghost use Rattle.pe_reassembler.specs.Calls.{countTold as numberTold};
+ghost use Rattle.pe_reassembler.specs.Calls.{madeTold, cancelledTold, countTold, statsTold};
 ghost use Rattle.hub.specs.Answers.{answerOf, asCount, fedAnswer, fedAnswerOf, statsAnswerOf};
 
 // The refusal's number, 0 where there is none; the kind that refusal 24 carries, else 0; what is counted, 0 with a refusal.
@@ -83,7 +82,7 @@ pub fn pe_encoded(a: Encoded) -> Answer
 
 // How many chunks there are.
 pub fn chunks_counted(a: ChunkCount) -> Answer
-    ensures { λ r. ⌜ r ≡ answerOf (countTold a) ⌝ }
+    ensures { λ r. ⌜ r ≡ answerOf (chunkCountTold a) ⌝ }
 {
     match a {
         ChunkCount::Chunks(n) => counted(n as u64),
@@ -113,7 +112,7 @@ pub fn cancelled(a: Cancelled) -> Answer
 
 // How many slots or bytes there are.
 pub fn number_counted(a: Count) -> Answer
-    ensures { λ r. ⌜ r ≡ answerOf (numberTold a) ⌝ }
+    ensures { λ r. ⌜ r ≡ answerOf (countTold a) ⌝ }
 {
     match a {
         Count::Number(n) => counted(n),

@@ -91,6 +91,6 @@ abbrev pub capacityTold : Capacity → Reply ℕ
 capacityTold (Capacity.Bytes n) = granted n
 capacityTold (Capacity.Refused e) = peRefused e
 
-abbrev pub countTold : ChunkCount → Reply ℕ
-countTold (ChunkCount.Chunks n) = granted n
-countTold (ChunkCount.Refused e) = peRefused e
+abbrev pub chunkCountTold : ChunkCount → Reply ℕ
+chunkCountTold (ChunkCount.Chunks n) = granted n
+chunkCountTold (ChunkCount.Refused e) = peRefused e

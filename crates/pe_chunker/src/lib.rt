@@ -14,7 +14,7 @@ ghost use lib.Dec.{eqb};
 ghost use lib.ListN.{length};
 ghost use Rattle.seven_bit.specs.Reply.{outcome, writing};
 ghost use Rattle.pe_wire.specs.Wire.{encodedTold};
-ghost use Rattle.pe_chunker.specs.Cut.{clamped, budget, laterCapacity, askFirst, cutCount, cutChunk, capacityTold, countTold};
+ghost use Rattle.pe_chunker.specs.Cut.{clamped, budget, laterCapacity, askFirst, cutCount, cutChunk, capacityTold, chunkCountTold};
 
 pub const MAX_SYSEX_MIN: u32 = 128;
 
@@ -82,7 +82,7 @@ fn chunks_for(body_len: usize, first: usize, later: usize) -> usize
 
 // How many chunks the header and the body are cut into.
 pub fn chunk_count(request_id: u8, header: &[u8], body: &[u8], max_sysex: u32) -> ChunkCount
-    ensures { λ r. ⌜ countTold r ≡ cutCount «request_id» (now (header .entry)) (now (body .entry)) «max_sysex» ⌝ }
+    ensures { λ r. ⌜ chunkCountTold r ≡ cutCount «request_id» (now (header .entry)) (now (body .entry)) «max_sysex» ⌝ }
 {
     if request_id > REQUEST_ID_MAX {
         return ChunkCount::Refused(PeError::BadField);

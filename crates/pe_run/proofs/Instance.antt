@@ -25,7 +25,7 @@ use Rattle.pe_reassembler.specs.Open.{Perm, swap}
 use Rattle.pe_reassembler.specs.Table.{isMuid}
 use Rattle.pe_run.specs.Model.{Entry, Model, findsRecord, hasFour, judged, arrives}
 use Rattle.pe_run.specs.Calls.{Arrival, arrival, actOf, hasOutputs, fedArrival, messageArrival, modelAfter}
-use Rattle.pe_run.specs.Instance.{lentHeader, lentBody, header, body, one, two, message, torn, other, before, first, rest}
+use Rattle.pe_run.specs.Instance.{lentHeader, lentBody, header, body, one, two, oneInMessage, torn, other, before, firstCall, rest}
 use Rattle.pe_run.specs.Demand.{fullSize, CutInto, ours, Room, Spared, Delivery}
 
 header-long : length lentHeader ≡ 4096
@@ -94,12 +94,12 @@ other-in-range request-id number i n =
     }
 
 -- ---- the first chunk in a message
-pub message-arrives : messageArrival (fullSize 2) message 9000 lentHeader lentBody ≡ granted (bearing 9 one 9000)
-unfolding messageArrival message writeWhole within28 carriesChunk chunkLen
+pub message-arrives : messageArrival (fullSize 2) oneInMessage 9000 lentHeader lentBody ≡ granted (bearing 9 one 9000)
+unfolding messageArrival oneInMessage writeWhole within28 carriesChunk chunkLen
 message-arrives =
-    let w : writeWhole 0x34 9 7 one 4096 ≡ granted message = ask-yes one _ one-in-range in
-    let r = whole-then-read 0x34 9 7 one 4096 message w in
-    let b : drop 13 message ≡ chunkBytes one = sym (read-bytes-are (drop 13 message) (fields one) (r .1)) ∙ ap chunkBytes (r .2) in
+    let w : writeWhole 0x34 9 7 one 4096 ≡ granted oneInMessage = ask-yes one _ one-in-range in
+    let r = whole-then-read 0x34 9 7 one 4096 oneInMessage w in
+    let b : drop 13 oneInMessage ≡ chunkBytes one = sym (read-bytes-are (drop 13 oneInMessage) (fields one) (r .1)) ∙ ap chunkBytes (r .2) in
     rw (outputs-long, r .0, r .1, r .2, b) refl
 
 -- ---- the run
@@ -142,13 +142,13 @@ instance-room : Room 2 9 5 (modelAfter (fullSize 2) before)
 unfolding findsRecord
 instance-room = rw before-is (record { record-found = refl; not-open = refl; fewer = omega arith })
 
-instance-once : Perm (map (λ (a : Arrival). a .bytes) (ours (fullSize 2) 9 5 (first ∷ rest))) (chunkBytes one ∷ chunkBytes two ∷ [])
+instance-once : Perm (map (λ (a : Arrival). a .bytes) (ours (fullSize 2) 9 5 (firstCall ∷ rest))) (chunkBytes one ∷ chunkBytes two ∷ [])
 instance-once = rw (arrives-first, arrives-8, arrives-9, torn-refused, message-arrives) swap
 
-instance-spared : Spared 9 5 0 (map (actOf (fullSize 2)) (first ∷ rest))
+instance-spared : Spared 9 5 0 (map (actOf (fullSize 2)) (firstCall ∷ rest))
 instance-spared = rw (arrives-first, arrives-8, arrives-9, torn-refused, message-arrives) (omega arith, (omega arith, (refl, (refl, tt))))
 
-pub instance : Delivery 2 (modelAfter (fullSize 2) before) 9 5 header body 128 first rest
+pub instance : Delivery 2 (modelAfter (fullSize 2) before) 9 5 header body 128 firstCall rest
 instance =
     record {
       chunks = chunkBytes one ∷ chunkBytes two ∷ [];

@@ -16,7 +16,7 @@ use Rattle.pe_run.specs.Model.{Entry, Model, isLate, findsRecord, hasFou
 use Rattle.pe_run.specs.Calls.{Call, Answer, fed, timed-out, Arrival, grantedOf, arrivalOf, actOf, Key, keyOf, TimedOut, Right, AllRight}
 use Rattle.pe_run.specs.Run.{Table, made, tableFrom, Run}
 use Rattle.pe_run.specs.Demand.{fullSize, LongEnough}
-use Rattle.pe_run.specs.Instance.{lentMemory, places, header, body, one, two, other, before, first, rest, answers}
+use Rattle.pe_run.specs.Instance.{lentMemory, places, header, body, one, two, other, before, firstCall, rest, answers}
 use Rattle.pe_run.proofs.PermLaws.{perm-length}
 use Rattle.pe_run.proofs.Ahead.{long-enough}
 use Rattle.pe_run.proofs.Carried.{act-arrives, answer-arrives}
@@ -103,7 +103,7 @@ unfolding arrives findsRecord hasFour judged judge headerFits headerAgrees sameH
     bodyLen afterChunk passed isWhole allHeld eventOf insert inOrder joined bodyOf
 takes-last = refl
 
-told-from : Gives open-before (first ∷ rest) answers
+told-from : Gives open-before (firstCall ∷ rest) answers
 unfolding reservedOf bodyLen
 told-from =
     next-chunk (bearing 9 two 100) (ours-open ∷ open-before) (granted waiting) (ap grantedOf arrives-first) takes-first
@@ -120,16 +120,16 @@ told-from =
 
 -- Whatever memory the table was made of, these are the answers, and the run gets them.
 pub instance-told : (t : Table) → LongEnough 2 t → (told : List Answer)
-    → Run (fullSize 2) (tableFrom (fullSize 2) (made (fullSize 2) t) before) (first ∷ rest) told → told ≡ answers
+    → Run (fullSize 2) (tableFrom (fullSize 2) (made (fullSize 2) t) before) (firstCall ∷ rest) told → told ≡ answers
 instance-told t long told r =
     told-from .all told
-    (subst (λ (b : Model). AllRight (fullSize 2) b (first ∷ rest) told) before-is
-    (answers-right (fullSize 2) t (long-enough 2 t (omega arith) long) before (first ∷ rest) told r))
+    (subst (λ (b : Model). AllRight (fullSize 2) b (firstCall ∷ rest) told) before-is
+    (answers-right (fullSize 2) t (long-enough 2 t (omega arith) long) before (firstCall ∷ rest) told r))
 
-pub instance-run : (t : Table) → LongEnough 2 t → Run (fullSize 2) (tableFrom (fullSize 2) (made (fullSize 2) t) before) (first ∷ rest) answers
+pub instance-run : (t : Table) → LongEnough 2 t → Run (fullSize 2) (tableFrom (fullSize 2) (made (fullSize 2) t) before) (firstCall ∷ rest) answers
 instance-run t long =
-    let a = answered (fullSize 2) (tableFrom (fullSize 2) (made (fullSize 2) t) before) (first ∷ rest) in
-    subst (λ (told : List Answer). Run (fullSize 2) (tableFrom (fullSize 2) (made (fullSize 2) t) before) (first ∷ rest) told)
+    let a = answered (fullSize 2) (tableFrom (fullSize 2) (made (fullSize 2) t) before) (firstCall ∷ rest) in
+    subst (λ (told : List Answer). Run (fullSize 2) (tableFrom (fullSize 2) (made (fullSize 2) t) before) (firstCall ∷ rest) told)
     (instance-told t long (a .0) (a .1)) (a .1)
 
 -- There is such memory.

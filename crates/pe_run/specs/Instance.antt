@@ -41,8 +41,8 @@ abbrev pub two : Chunk
 two = record { request-id = 5; header = []; num-chunks = 2; chunk-num = 2; property = body }
 
 -- the first one from peer 9 to peer 7 in a message of kind 34, and the second one without its last byte
-unfoldable pub message : List ℕ
-message = headerBytes (headerFor 0x34 9 7) ++ chunkBytes one
+unfoldable pub oneInMessage : List ℕ
+oneInMessage = headerBytes (headerFor 0x34 9 7) ++ chunkBytes one
 
 abbrev pub torn : List ℕ
 torn = 5 ∷ 0 ∷ 0 ∷ 2 ∷ 0 ∷ 2 ∷ 0 ∷ 3 ∷ 0 ∷ 10 ∷ 20 ∷ []
@@ -60,8 +60,8 @@ before =
     ∷ drop-peer 7
     ∷ []
 
-abbrev pub first : Call
-first = feed 9 (chunkBytes two) 100 lentHeader lentBody
+abbrev pub firstCall : Call
+firstCall = feed 9 (chunkBytes two) 100 lentHeader lentBody
 
 abbrev pub rest : List Call
 rest =
@@ -74,10 +74,10 @@ rest =
     ∷ poll 50 places places
     ∷ cancel 9 6
     ∷ drop-peer 8
-    ∷ feed-message message 9000 lentHeader lentBody
+    ∷ feed-message oneInMessage 9000 lentHeader lentBody
     ∷ []
 
--- ---- what `first` and `rest` are told
+-- ---- what `firstCall` and `rest` are told
 abbrev pub answers : List Answer
 answers =
     fed (granted still) lentHeader lentBody

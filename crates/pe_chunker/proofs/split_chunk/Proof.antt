@@ -7,7 +7,7 @@ use Rattle.pe_chunker.proofs.split_chunk.Statement.{statement}
 use Rattle.pe_chunker.proofs.split_chunk.Tie as tie
 use denote.Ref.{now}
 use Rattle.seven_bit.specs.Reply.{writing, Reply}
-use Rattle.pe_chunker.specs.Cut.{countTold, bodyPieces}
+use Rattle.pe_chunker.specs.Cut.{chunkCountTold, bodyPieces}
 use Rattle.pe_chunker.proofs.CutLaws.{later-between}
 use Rattle.pe_chunker.proofs.PieceLaws.{piece-at, part-ends}
 use Rattle.pe_chunker.proofs.AskLaws.{Cut}
@@ -24,7 +24,7 @@ up c = c .before .before .before .before .before .before
 cut : (c : tie.After-n)
     → Cut (up c .args .request-id) (now (up c .args .header)) (now (up c .args .body)) (up c .args .max-sysex)
     × (length (bodyPieces (up c .args .max-sysex) (length (now (up c .args .header))) (now (up c .args .body))) ≡ c .n .given .0 .0)
-cut c = count-told _ _ _ _ _ (sym (c .before .before .chunk-count .ensures) ∙ ap countTold (c .n .given .1))
+cut c = count-told _ _ _ _ _ (sym (c .before .before .chunk-count .ensures) ∙ ap chunkCountTold (c .n .given .1))
 
 abbrev up2 : tie.After-body-part2 → tie.After-n
 up2 c = c .before .before .before .before .before .before .before
@@ -47,7 +47,7 @@ enum-known-e c = search needs
 returns : tie.Need-returns
 returns c =
     let a = c .before .before .before .before .before .before .before .args in
-    let q = sym (c .before .before .before .chunk-count .ensures) ∙ ap countTold (c .before .e .given .1) in
+    let q = sym (c .before .before .before .chunk-count .ensures) ∙ ap chunkCountTold (c .before .e .given .1) in
     rw (chunk-refused _ _ _ _ (a .chunk-num) (length (now (a .out))) _ _ q)
 
 returns-2 : tie.Need-returns-2

@@ -2,13 +2,13 @@ use borrow.Author.Needs.{needs}
 use Rattle.hub.proofs.answer.chunks_counted.Statement.{statement}
 use Rattle.hub.proofs.answer.chunks_counted.Tie as tie
 use Rattle.pe_chunker.specs.declared.ChunkCount.{ChunkCount}
-use Rattle.pe_chunker.specs.Cut.{countTold}
+use Rattle.pe_chunker.specs.Cut.{chunkCountTold}
 use Rattle.hub.specs.declared.answer.Answer.{Answer}
 use Rattle.hub.specs.Answers.{answerOf}
 use Rattle.hub.proofs.AnswerLaws.{matched}
 
 abbrev tells : ChunkCount → Answer
-tells a = answerOf (countTold a)
+tells a = answerOf (chunkCountTold a)
 
 enum-known-a : tie.Need-enum-known-a
 enum-known-a c = search needs
