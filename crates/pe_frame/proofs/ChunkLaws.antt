@@ -32,7 +32,7 @@ readEnd s nh count number nd =
 abbrev pub readCounts : List ℕ → ℕ → Reply Fields
 readCounts s nh =
     isSevenBit (part (3 + nh) 6 s) else 1 then
-    readEnd s nh (numberOf (part (3 + nh) 2 s)) (numberOf (part (5 + nh) 2 s)) (numberOf (part (7 + nh) 2 s))
+    readEnd s nh (numberOf (part (3 + nh) 2 s)) (numberOf (part (3 + nh + 2) 2 s)) (numberOf (part (3 + nh + 4) 2 s))
 
 -- are put where those before had a yes
 pub past-header : (s : List ℕ) (nh : ℕ) → 9 + nh ≤ length s → getD s 0 0 ≤ 127 → readU14 (drop 1 s) ≡ granted nh → isSevenBit (part 3 nh s) ≡ true →
@@ -46,8 +46,9 @@ past-header s nh l i h b =
 
 -- and the last of them where the fields' bytes had a yes
 pub past-fields : (s : List ℕ) (nh count number nd : ℕ) → isSevenBit (part (3 + nh) 6 s) ≡ true →
-    count ≡ numberOf (part (3 + nh) 2 s) → number ≡ numberOf (part (5 + nh) 2 s) → nd ≡ numberOf (part (7 + nh) 2 s) → readCounts s nh ≡ readEnd s nh count number nd
-past-fields s nh count number nd t e₃ e₅ e₇ = rw (t, e₃, e₅, e₇)
+    count ≡ numberOf (part (3 + nh) 2 s) → number ≡ numberOf (part (3 + nh + 2) 2 s) → nd ≡ numberOf (part (3 + nh + 4) 2 s)
+    → readCounts s nh ≡ readEnd s nh count number nd
+past-fields s nh count number nd t c n d = rw (t, c, n, d)
 
 -- a chunk in range has a yes to each question
 pub ask-yes : {A : Type 0} (c : Chunk) (next : Reply A) → InRange c → askChunk c next ≡ next

@@ -1,6 +1,7 @@
 // PeChunkRef: a chunk that refers to the bytes it was read from.
 use crate::frame::ChunkFields;
 use crate::frame::ChunkRead;
+use crate::frame::HEADER_AT;
 use crate::frame::decode_fields;
 use crate::frame::encode;
 use pe_wire::error::PeError;
@@ -82,7 +83,7 @@ fn bytes_at(s: &[u8], at: usize, len: usize) -> &[u8]
 fn chunk_of<'a>(data: &'a [u8], fields: ChunkFields) -> PeChunkRef<'a>
     ensures { λ r. ⌜ chunkIn r ≡ chunkOf (now («data» .entry)) (fieldsOf fields) ⌝ }
 {
-    let header = bytes_at(data, 3, fields.header_len);
+    let header = bytes_at(data, HEADER_AT, fields.header_len);
     let property = bytes_at(data, fields.property_at, fields.property_len);
     PeChunkRef {
         request_id: fields.request_id,

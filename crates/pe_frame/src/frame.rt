@@ -17,9 +17,12 @@ ghost use Rattle.pe_frame.specs.Write.{askChunk, chunkLenTold, chunkByte
 // The bytes of a chunk besides its header and property.
 pub const PE_FRAMING_LEN: usize = 9;
 
+// Where its header starts, behind the request id and the header's length.
+pub const HEADER_AT: usize = 3;
+
 pub const REQUEST_ID_MAX: u8 = 0x7F;
 
-// What reading a chunk finds: its header starts at byte 3, its property at property_at.
+// What reading a chunk finds: its header starts at HEADER_AT, its property at property_at.
 pub struct ChunkFields {
     pub request_id: u8,
     pub header_len: usize,
@@ -64,12 +67,13 @@ fn decode_counts(data: &[u8], nh: usize) -> ChunkRead
         ≡ granted nh) × (isSevenBit (part 3 nh (now «data»)) ≡ true) ⌝ }
     ensures { λ r. ⌜ chunkTold r ≡ readFields (now («data» .entry)) ⌝ }
 {
-    if !low_six(data, 3 + nh) {
+    let behind = HEADER_AT + nh;
+    if !low_six(data, behind) {
         return ChunkRead::Refused(PeError::BadField);
     }
-    let num_chunks = u14_at(data, 3 + nh);
-    let chunk_num = u14_at(data, 5 + nh);
-    let nd = u14_at(data, 7 + nh) as usize;
+    let num_chunks = u14_at(data, behind);
+    let chunk_num = u14_at(data, behind + 2);
+    let nd = u14_at(data, behind + 4) as usize;
     let property_at = PE_FRAMING_LEN + nh;
     if data.len() < property_at + nd {
         return ChunkRead::Refused(PeError::Truncated);
@@ -109,8 +113,8 @@ pub fn decode_fields(data: &[u8]) -> ChunkRead
     if data.len() < PE_FRAMING_LEN + nh {
         return ChunkRead::Refused(PeError::Truncated);
     }
-    let header_end = 3 + nh;
-    if !seven_bit::all_seven_bit(&data[3..header_end]) {
+    let header_end = HEADER_AT + nh;
+    if !seven_bit::all_seven_bit(&data[HEADER_AT..header_end]) {
         return ChunkRead::Refused(PeError::BadField);
     }
     decode_counts(data, nh)
@@ -186,8 +190,8 @@ pub(crate) fn fill(
 {
     out[at] = request_id;
     put_u14(out, at + 1, header.len() as u16);
-    seven_bit::copy_in(out, at + 3, header);
-    let behind = at + 3 + header.len();
+    seven_bit::copy_in(out, at + HEADER_AT, header);
+    let behind = at + HEADER_AT + header.len();
     put_u14(out, behind, num_chunks);
     put_u14(out, behind + 2, chunk_num);
     put_u14(out, behind + 4, property.len() as u16);

@@ -15,6 +15,7 @@ use midici_core::pe_msg::PeMessage;
 use midici_core::spec::CI_HEADER_LEN;
 use pe_frame::frame::ChunkFields;
 use pe_frame::frame::ChunkRead;
+use pe_frame::frame::HEADER_AT;
 use pe_frame::frame::decode_fields;
 use pe_slot::layout::SLOT_WORDS;
 use pe_slot::slot::Fed;
@@ -151,7 +152,7 @@ fn reach_slot(
     let index_at = room_at(shape.fragment_records, p, s);
     let header_at = room_at(shape.header_bytes, p, s);
     let arena_at = room_at(shape.tx_bytes, p, s);
-    let header_end = 3 + f.header_len;
+    let header_end = HEADER_AT + f.header_len;
     let start = f.property_at;
     let end = start + f.property_len;
     feed_slot(
@@ -160,7 +161,7 @@ fn reach_slot(
         &mut headers[header_at..header_at + shape.header_bytes],
         &mut arenas[arena_at..arena_at + shape.tx_bytes],
         f.request_id,
-        &data[3..header_end],
+        &data[HEADER_AT..header_end],
         f.num_chunks,
         f.chunk_num,
         &data[start..end],

@@ -17,9 +17,10 @@ use Rattle.pe_slot.specs.declared.layout.TxSlot.{TxSlot}
 use Rattle.pe_slot.specs.Layout.{slotWords}
 use Rattle.pe_slot.specs.Slot.{judge}
 use Rattle.pe_slot.specs.Memory.{slotOf, wordsOf, contents, endsAt, isEnd, isSound}
-use Rattle.pe_slot.specs.Records.{Scanned}
+use Rattle.pe_slot.specs.Records.{Scanned, holds}
 use Rattle.pe_slot.specs.Feed.{SlotLeft, slotLeft, touched, placed, isShaped, feedSlot}
-use Rattle.pe_slot.specs.Steps.{isBounded}
+use Rattle.pe_slot.specs.Steps.{isBounded, askSound, Ready}
+use Rattle.pe_slot.proofs.FeedTheorems.{sound-told as holding}
 
 -- the lengths of a slot's parts are in range
 pub record Shaped (words index header arena out-header out-body : List ℕ) : Type 0 where
@@ -45,18 +46,13 @@ shaped-told words index header arena out-header out-body e =
       body-room = leb-true _ _ (p₁ .1);
     }
 
--- a slot's lengths are within its rooms
-pub record Bounded (H B R header-len index-len property-bytes : ℕ) : Type 0 where
-  pub head : header-len ≤ H
-  pub held : index-len ≤ R
-  pub body : property-bytes ≤ B
-
-pub bounded-told : (H B R active header-len index-len property-bytes : ℕ) → isBounded H B R active header-len index-len property-bytes ≡ true → Bounded H B R header-len index-len property-bytes
-bounded-told H B R active header-len index-len property-bytes e =
-    let p₁ = and-told (leb header-len H && leb index-len R && leb property-bytes B) (not (eqb active 0) || (eqb header-len 0 && eqb index-len 0)) e in
-    let p₂ = and-told (leb header-len H && leb index-len R) (leb property-bytes B) (p₁ .0) in
-    let p₃ = and-told (leb header-len H) (leb index-len R) (p₂ .0) in
-    record { head = leb-true _ _ (p₃ .0); held = leb-true _ _ (p₃ .1); body = leb-true _ _ (p₂ .1) }
+-- so many records as there is room for
+pub bounded-held : (H B R : ℕ) (t : TxSlot) → isBounded H B R t ≡ true → t .«index_len» ≤ R
+bounded-held H B R t e =
+    let p₁ = and-told (leb (t .«header_len») H && leb (t .«index_len») R && leb (t .«property_bytes») B)
+    (not (eqb (t .active) 0) || (eqb (t .«header_len») 0 && eqb (t .«index_len») 0)) e in
+    let p₂ = and-told (leb (t .«header_len») H && leb (t .«index_len») R) (leb (t .«property_bytes») B) (p₁ .0) in
+    leb-true _ _ (and-told (leb (t .«header_len») H) (leb (t .«index_len») R) (p₂ .0) .1)
 
 -- question 31 is the test of the lengths, and that of the records
 end-is : (laid : Bool) (end n : ℕ) → isEnd (cond laid (some end) none) n ≡ (laid && eqb end n)
@@ -74,11 +70,7 @@ within-yes false e d q r = q
 ends-no : (x e d : Bool) → e ≡ false → (x && e && d) ≡ false
 ends-no x e d q = rw (q, and-false x)
 
-laid-told : (laid : Bool) (end n : ℕ) → (laid && eqb end n) ≡ true → cond laid (some end) none ≡ some n
-laid-told true end n e = ap (λ (x : ℕ). some x) (eqb-true _ _ e)
-laid-told false end n e = absurd (let z : _≡_ {A = ℕ} 0 1 = cc in omega arith)
-
-module _ (H B R : ℕ) (t : TxSlot) (index : List ℕ) {bound : Bool} (q : bound ≡ isBounded H B R (t .active) (t .«header_len») (t .«index_len») (t .«property_bytes»)) where
+module _ (H B R : ℕ) (t : TxSlot) (index : List ℕ) {bound : Bool} (q : bound ≡ isBounded H B R t) where
   pub unbounded : not bound ≡ true → isSound H B R t index ≡ false
   unfolding isSound
   unbounded n =
@@ -101,8 +93,52 @@ module _ (H B R : ℕ) (t : TxSlot) (index : List ℕ) {bound : Bool} (q : bound
         within-yes (leb (t .«header_len») H && leb (t .«index_len») R && leb (t .«property_bytes») B) (isEnd (endsAt 0 (take (t .«index_len») index)) (t .«property_bytes»))
         (not (eqb (t .active) 0) || (eqb (t .«header_len») 0 && eqb (t .«index_len») 0)) (sym q ∙ not-false bound b) (is-end ∙ not-false met k)
 
-    pub ends : not met ≡ false → endsAt 0 (take (t .«index_len») index) ≡ some (t .«property_bytes»)
-    ends k = sym (l .ends) ∙ laid-told (p .laid) (p .end) (t .«property_bytes») (sym m ∙ not-false met k)
+-- what is told of it, and what that tells
+module _ (words index header arena : List ℕ) (number : ℕ) where
+  pub damaged : isSound (length header) (length arena) (length index) (slotOf words) index ≡ false → none ≡ askSound words index header arena number
+  unfolding askSound
+  damaged n = rw n
+
+  pub sound-held : {held : Bool} → isSound (length header) (length arena) (length index) (slotOf words) index ≡ true
+      → held ≡ holds number (take (slotOf words .«index_len») index) → some held ≡ askSound words index header arena number
+  unfolding askSound
+  sound-held y h = rw (y, h)
+
+  pub damaged-told : none ≡ askSound words index header arena number → isSound (length header) (length arena) (length index) (slotOf words) index ≡ false
+  unfolding askSound
+  damaged-told e = go (isSound (length header) (length arena) (length index) (slotOf words) index) e
+    where
+      go : (b : Bool) → none ≡ cond b (some (holds number (take (slotOf words .«index_len») index))) none → b ≡ false
+      go true e = absurd (let z : _≡_ {A = ℕ} 0 1 = cc in omega arith)
+      go false e = refl
+
+  pub sound-told : {held : Bool} → some held ≡ askSound words index header arena number
+      → (isSound (length header) (length arena) (length index) (slotOf words) index ≡ true) × (held ≡ holds number (take (slotOf words .«index_len») index))
+  unfolding askSound
+  sound-told {held} e = go (isSound (length header) (length arena) (length index) (slotOf words) index) e
+    where
+      go : (b : Bool) → some held ≡ cond b (some (holds number (take (slotOf words .«index_len») index))) none
+          → (b ≡ true) × (held ≡ holds number (take (slotOf words .«index_len») index))
+      go true e = (refl, cc)
+      go false e = absurd (let z : _≡_ {A = ℕ} 0 1 = cc in omega arith)
+
+-- a sound slot that was touched is ready; w: its words
+pub ready : (words index header arena out-header out-body : List ℕ) {w : List ℕ} (request-id now-ms tick : ℕ) → Shaped words index header arena out-header out-body
+    → isSound (length header) (length arena) (length index) (slotOf words) index ≡ true → w ≡ wordsOf (touched (slotOf words) request-id now-ms tick)
+    → Ready w index header arena out-header out-body
+ready words index header arena out-header out-body request-id now-ms tick s e t =
+    let m = holding _ _ _ (slotOf words) index e in
+    rw t (record {
+      nine = refl;
+      head = m .head;
+      held = m .held;
+      records = s .records;
+      ends = m .ends;
+      body = m .body;
+      bytes = s .bytes;
+      header-room = s .header-room;
+      body-room = s .body-room;
+    })
 
 -- what each answer leaves
 module _ (words index header arena : List ℕ) (c : Chunk) (now-ms tick : ℕ) (out-header out-body : List ℕ) where

@@ -3,26 +3,41 @@
 use Prim.Native.Nat.{ℕ, _+_, _≤_}
 use mathlib.Core.Bool.{Bool, true, cond, not, _&&_, _||_}
 use mathlib.Core.List.{List}
-use mathlib.Core.Option.{some}
+use mathlib.Core.Option.{Option, none, some}
 use mathlib.Core.Path.{_≡_}
 use lib.Dec.{leb, ltb, eqb}
 use lib.ListN.{length, take, set}
 use Rattle.seven_bit.specs.Parts.{splice}
 use Rattle.seven_bit.specs.Reply.{Reply, granted, refused}
 use Rattle.pe_wire.specs.Errors.{peRefused}
+use Rattle.pe_slot.specs.declared.layout.TxSlot.{TxSlot}
 use Rattle.pe_slot.specs.declared.slot.Asked.{Asked}
+use Rattle.pe_slot.specs.declared.slot.Soundness.{Soundness}
 use Rattle.pe_slot.specs.Layout.{slotWords, numChunksAt, headerSetAt, headerLenAt, indexLenAt, propertyBytesAt}
 use Rattle.pe_slot.specs.Slot.{Slot, eqList, isWhole, eventOf}
-use Rattle.pe_slot.specs.Memory.{slotOf, packed, endsAt}
+use Rattle.pe_slot.specs.Memory.{slotOf, packed, endsAt, isSound}
+use Rattle.pe_slot.specs.Records.{holds}
 use Rattle.pe_slot.specs.Feed.{Told, still, toldAnswer, outHeader, outBody, cleared}
 
 -- The part of question 31 that needs no pass over the records.
-abbrev pub isBounded : ℕ → ℕ → ℕ → ℕ → ℕ → ℕ → ℕ → Bool
-isBounded H B R active header-len index-len property-bytes =
-    leb header-len H
-    && leb index-len R
-    && leb property-bytes B
-    && (not (eqb active 0) || (eqb header-len 0 && eqb index-len 0))
+abbrev pub isBounded : ℕ → ℕ → ℕ → TxSlot → Bool
+isBounded H B R t =
+    leb (t .«header_len») H
+    && leb (t .«index_len») R
+    && leb (t .«property_bytes») B
+    && (not (eqb (t .active) 0) || (eqb (t .«header_len») 0 && eqb (t .«index_len») 0))
+
+-- Question 31: of a sound slot it is told whether the chunk's number is among its records.
+unfoldable pub askSound : List ℕ → List ℕ → List ℕ → List ℕ → ℕ → Option Bool
+askSound words index header arena number =
+    cond (isSound (length header) (length arena) (length index) (slotOf words) index)
+    (some (holds number (take (slotOf words .«index_len») index)))
+    none
+
+-- The code's answer to it.
+abbrev pub soundnessTold : Soundness → Option Bool
+soundnessTold (Soundness.Sound held) = some held
+soundnessTold Soundness.Damaged = none
 
 -- A slot's memory is sound, and the outputs have room.
 pub record Ready (words index header arena out-header out-body : List ℕ) : Type 0 where

@@ -21,15 +21,15 @@ use pe_wire::wire::U14_MAX;
 ghost use mathlib.Core.Bool.{not, _&&_, _||_};
 ghost use mathlib.Core.Path.{_≡_};
 ghost use Prim.Native.Nat.{_≤_};
-ghost use lib.Dec.{leb, eqb};
+ghost use lib.Dec.{eqb};
 ghost use lib.ListN.{length, take};
 ghost use Rattle.pe_slot.specs.Layout.{slotWords};
 ghost use Rattle.pe_slot.specs.Slot.{eqList, judge};
 ghost use Rattle.pe_slot.specs.Memory.{slotOf, wordsOf, contents};
-ghost use Rattle.pe_slot.specs.Feed.{slotLeft, feedSlot, fedTold, placed, touched, closeWords};
+ghost use Rattle.pe_slot.specs.Feed.{slotLeft, isShaped, feedSlot, fedTold, placed, touched, closeWords};
 ghost use Rattle.pe_slot.specs.Records.{holds};
 ghost use Rattle.pe_frame.specs.Chunk.{chunkFrom};
-ghost use Rattle.pe_slot.specs.Steps.{isBounded, Ready, askedTold, headerTaken, takeHeader, countTaken, takeCount};
+ghost use Rattle.pe_slot.specs.Steps.{isBounded, soundnessTold, askSound, Ready, askedTold, headerTaken, takeHeader, countTaken, takeCount};
 ghost use Rattle.pe_slot.specs.Steps.{pieceAdded, addPiece, finished, finishOf};
 
 // When a chunk comes: the time, and the tick that it gives its slot.
@@ -47,32 +47,32 @@ pub enum Fed {
 
 // Are there nine words, rooms in range, and outputs as long as the rooms?
 fn is_shaped(
-    words: usize,
-    index: usize,
-    header: usize,
-    arena: usize,
-    out_header: usize,
-    out_body: usize,
+    words: &[u64],
+    index: &[u64],
+    header: &[u8],
+    arena: &[u8],
+    out_header: &[u8],
+    out_body: &[u8],
 ) -> bool
-    ensures { λ r. ⌜ r ≡ (eqb words slotWords && leb index 2048 && leb header 4096 && leb arena 65536
-        && leb header «out_header» && leb arena «out_body») ⌝ }
+    ensures { λ r. ⌜ r ≡ isShaped (now (words .entry)) (now (index .entry)) (now (header .entry)) (now (arena .entry)) (now («out_header» .entry))
+        (now («out_body» .entry)) ⌝ }
 {
-    if words != SLOT_WORDS {
+    if words.len() != SLOT_WORDS {
         return false;
     }
-    if index > MAX_FRAGMENT_RECORDS {
+    if index.len() > MAX_FRAGMENT_RECORDS {
         return false;
     }
-    if header > MAX_HEADER_BYTES {
+    if header.len() > MAX_HEADER_BYTES {
         return false;
     }
-    if arena > MAX_TX_BYTES {
+    if arena.len() > MAX_TX_BYTES {
         return false;
     }
-    if header > out_header {
+    if header.len() > out_header.len() {
         return false;
     }
-    arena <= out_body
+    arena.len() <= out_body.len()
 }
 
 // Is a free slot empty?
@@ -89,27 +89,58 @@ fn is_empty_if_free(active: u64, header_len: u64, index_len: u64) -> bool
 }
 
 // Are a slot's lengths within its rooms, and 0 if it is free?
-fn is_bounded(
-    header: u64,
-    arena: u64,
-    index: u64,
-    active: u64,
-    header_len: u64,
-    index_len: u64,
-    property_bytes: u64,
-) -> bool
-    ensures { λ r. ⌜ r ≡ isBounded header arena index active «header_len» «index_len» «property_bytes» ⌝ }
+fn is_bounded(words: &[u64], index: &[u64], header: &[u8], arena: &[u8]) -> bool
+    requires { ⌜ length (now words) ≡ slotWords ⌝ }
+    ensures { λ r. ⌜ r ≡ isBounded (length (now (header .entry))) (length (now (arena .entry))) (length (now (index .entry)))
+        (slotOf (now (words .entry))) ⌝ }
 {
-    if header_len > header {
+    if words[HEADER_LEN] > header.len() as u64 {
         return false;
     }
-    if index_len > index {
+    if words[INDEX_LEN] > index.len() as u64 {
         return false;
     }
-    if property_bytes > arena {
+    if words[PROPERTY_BYTES] > arena.len() as u64 {
         return false;
     }
-    is_empty_if_free(active, header_len, index_len)
+    is_empty_if_free(words[ACTIVE], words[HEADER_LEN], words[INDEX_LEN])
+}
+
+// Do the records lie end to end, up to the place that the words say?
+fn ends_at(laid: bool, end: u64, property_bytes: u64) -> bool
+    ensures { λ r. ⌜ r ≡ (laid && eqb end «property_bytes») ⌝ }
+{
+    if laid {
+        return end == property_bytes;
+    }
+    false
+}
+
+// The answer to document 01's question 31, and of a sound slot also whether a chunk number is held: one pass over the records tells both.
+pub(crate) enum Soundness {
+    Sound(bool),
+    Damaged,
+}
+
+// Asks question 31: are the lengths in bounds, and do the records lie end to end?
+fn soundness_of(
+    words: &[u64],
+    index: &[u64],
+    header: &[u8],
+    arena: &[u8],
+    chunk_num: u16,
+) -> Soundness
+    requires { ⌜ (length (now words) ≡ slotWords) × (length (now index) ≤ 2048) ⌝ }
+    ensures { λ r. ⌜ soundnessTold r ≡ askSound (now (words .entry)) (now (index .entry)) (now (header .entry)) (now (arena .entry)) «chunk_num» ⌝ }
+{
+    if !is_bounded(words, index, header, arena) {
+        return Soundness::Damaged;
+    }
+    let pass = scan(index, words[INDEX_LEN] as usize, chunk_num);
+    if !ends_at(pass.laid, pass.end, words[PROPERTY_BYTES]) {
+        return Soundness::Damaged;
+    }
+    Soundness::Sound(pass.held)
 }
 
 // Are two headers the same?
@@ -266,6 +297,10 @@ fn finish(
         return Fed::Waiting;
     }
     let len = words[INDEX_LEN];
+    // fewer records than the count can't hold every number
+    if len < count {
+        return Fed::Waiting;
+    }
     let end = words[PROPERTY_BYTES] as usize;
     let Joined::Body(body_len) = join(count, index, len as usize, end, arena, out_body) else {
         return Fed::Waiting;
@@ -313,16 +348,6 @@ fn feed_sound(
     finish(words, index, header, arena, out_header, out_body)
 }
 
-// Do the records lie end to end, up to the place that the words say?
-fn ends_at(laid: bool, end: u64, property_bytes: u64) -> bool
-    ensures { λ r. ⌜ r ≡ (laid && eqb end «property_bytes») ⌝ }
-{
-    if laid {
-        return end == property_bytes;
-    }
-    false
-}
-
 // Feeds a chunk to the slot whose nine words, records, header room and arena are lent, each as long as the shape says.
 pub fn feed_slot(
     words: &mut [u64],
@@ -338,40 +363,17 @@ pub fn feed_slot(
     out_header: &mut [u8],
     out_body: &mut [u8],
 ) -> Fed
-    ensures { λ r. ⌜ slotLeft (fedTold r) (now (words .exit)) (now (index .exit)) (now (header .exit)) (now (arena .exit))
-        (now («out_header» .exit)) (now («out_body» .exit))
-        ≡ feedSlot (now (words .entry)) (now (index .entry)) (now (header .entry)) (now (arena .entry))
-        (chunkFrom «request_id» (now («chunk_header» .entry)) «num_chunks» «chunk_num» (now (property .entry))) (moment .«now_ms»)
-        (moment .tick) (now («out_header» .entry)) (now («out_body» .entry)) ⌝ }
+    ensures { λ r. ⌜ slotLeft (fedTold r) (now (words .exit)) (now (index .exit)) (now (header .exit)) (now (arena .exit)) (now («out_header» .exit))
+        (now («out_body» .exit)) ≡ feedSlot (now (words .entry)) (now (index .entry)) (now (header .entry)) (now (arena .entry))
+        (chunkFrom «request_id» (now («chunk_header» .entry)) «num_chunks» «chunk_num» (now (property .entry)))
+        (moment .«now_ms») (moment .tick) (now («out_header» .entry)) (now («out_body» .entry)) ⌝ }
 {
-    if !is_shaped(
-        words.len(),
-        index.len(),
-        header.len(),
-        arena.len(),
-        out_header.len(),
-        out_body.len(),
-    ) {
+    if !is_shaped(words, index, header, arena, out_header, out_body) {
         return Fed::Refused(PeError::BadShape);
     }
-    let len = words[INDEX_LEN];
-    let end = words[PROPERTY_BYTES];
-    if !is_bounded(
-        header.len() as u64,
-        arena.len() as u64,
-        index.len() as u64,
-        words[ACTIVE],
-        words[HEADER_LEN],
-        len,
-        end,
-    ) {
+    let Soundness::Sound(held) = soundness_of(words, index, header, arena, chunk_num) else {
         return Fed::Refused(PeError::DamagedSlot);
-    }
-    let pass = scan(index, len as usize, chunk_num);
-    let held = pass.held;
-    if !ends_at(pass.laid, pass.end, end) {
-        return Fed::Refused(PeError::DamagedSlot);
-    }
+    };
     if property.len() > U14_MAX as usize {
         return Fed::Refused(PeError::BadField);
     }

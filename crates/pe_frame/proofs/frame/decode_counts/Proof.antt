@@ -41,8 +41,8 @@ behind c =
 first : (c : tie.Joined4) → (eqb (c .before .before .before .before .u14-at2 .result) 1 || eqb (start (up (c .before .before .before)) .args .nh) 0) ≡ true
 first c = ⊎-elim (λ w. rw (eq-eqb _ _ (w .1 .left)) (or-true (eqb (c .before .before .before .before .u14-at2 .result) 1))) (λ w. rw (eq-eqb _ _ (w .left))) (c .if4 .came)
 
-add-low-six : tie.Need-add-low-six
-add-low-six c = search needs
+add-behind : tie.Need-add-behind
+add-behind c = search needs
 
 low-six-requires : tie.Need-low-six-requires
 low-six-requires c κs = search needs
@@ -53,20 +53,17 @@ returns c =
     let f : isSevenBit (part (3 + a .args .nh) 6 (bytes a)) ≡ false = sym (c .before .low-six .ensures) ∙ not-true _ (c .if1 .taken) in
     rw (left a, f)
 
-add-u14-at : tie.Need-add-u14-at
-add-u14-at c = search needs
-
 u14-at-requires : tie.Need-u14-at-requires
 u14-at-requires c κs = search needs
 
-add-u14-at-2 : tie.Need-add-u14-at-2
-add-u14-at-2 c = search needs
+add-u14-at : tie.Need-add-u14-at
+add-u14-at c = search needs
 
 u14-at-requires-2 : tie.Need-u14-at-requires-2
 u14-at-requires-2 c κs = search needs
 
-add-u14-at-3 : tie.Need-add-u14-at-3
-add-u14-at-3 c = search needs
+add-u14-at-2 : tie.Need-add-u14-at-2
+add-u14-at-2 c = search needs
 
 u14-at-requires-3 : tie.Need-u14-at-requires-3
 u14-at-requires-3 c κs = search needs
@@ -102,8 +99,8 @@ returns-4 c =
       ne-eqb _ _ (c .if5 .taken),
     )
 
-shared-slice-read-t18 : tie.Need-shared-slice-read-t18
-shared-slice-read-t18 c = search needs
+shared-slice-read-t19 : tie.Need-shared-slice-read-t19
+shared-slice-read-t19 c = search needs
 
 returns-5 : tie.Need-returns-5
 unfolding readEnd
@@ -119,14 +116,13 @@ pub decode-counts-spec : {M : Type 1} → statement M
 decode-counts-spec =
     tie.close
     (tie.spec
-    add-low-six
+    add-behind
     low-six-requires
     returns
-    add-u14-at
     u14-at-requires
-    add-u14-at-2
+    add-u14-at
     u14-at-requires-2
-    add-u14-at-3
+    add-u14-at-2
     u14-at-requires-3
     cast-nd
     add-property-at
@@ -135,5 +131,5 @@ decode-counts-spec =
     add-if3
     returns-3
     returns-4
-    shared-slice-read-t18
+    shared-slice-read-t19
     returns-5)
