@@ -13,6 +13,7 @@ use Rattle.seven_bit.specs.Reply.{granted, refused}
 use Rattle.seven_bit.specs.SevenBit.{isSevenBit}
 use Rattle.seven_bit.proofs.PartLaws.{part-none}
 use Rattle.seven_bit.proofs.ReplyLaws.{asked, and-told}
+use Rattle.pe_frame.specs.Chunk.{chunkFrom}
 use Rattle.pe_frame.specs.Write.{chunkLen, writeChunk}
 use Rattle.pe_frame.proofs.ChunkLaws.{InRange, ask-yes}
 use Rattle.pe_chunker.specs.Cut.{budget, laterCapacity, bodyPieces, chunkAt, cutCount, cutChunk}
@@ -40,7 +41,7 @@ header-fits k n len e = go (eqb k 1) e
 -- what the code hands to the writer is the chunk
 pub chunk-is : (id : ℕ) (header body : List ℕ) (limit k count : ℕ) (h p : List ℕ) → h ≡ cond (eqb k 1) header []
     → length (bodyPieces limit (length header) body) ≡ count → p ≡ getD (bodyPieces limit (length header) body) (k - 1) []
-    → record { request-id = id; header = h; num-chunks = count; chunk-num = k; property = p } ≡ chunkAt id header body limit k
+    → chunkFrom id h count k p ≡ chunkAt id header body limit k
 unfolding chunkAt
 chunk-is id header body limit k count h p e f g = rw (e, ← f, g)
 

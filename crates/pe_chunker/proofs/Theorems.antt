@@ -12,7 +12,7 @@ use Rattle.seven_bit.specs.Reply.{granted}
 use Rattle.seven_bit.specs.SevenBit.{isSevenBit}
 use Rattle.midici_core.specs.Header.{Header, headerBytes}
 use Rattle.midici_core.proofs.HeaderLaws.{header-length}
-use Rattle.pe_frame.specs.Chunk.{Chunk, readFields, chunkOf}
+use Rattle.pe_frame.specs.Chunk.{Chunk, chunkFrom, readFields, chunkOf}
 use Rattle.pe_frame.specs.Write.{chunkBytes, chunkLen}
 use Rattle.pe_frame.proofs.RoundTrip.{fields, written-then-read}
 use Rattle.pe_frame.proofs.ChunkLaws.{InRange, chunk-length, write-granted}
@@ -49,7 +49,7 @@ empty-body-is-one-chunk id header limit i s h =
 
 -- which is number 1 of 1, with the header and an empty property.
 pub empty-body-chunk : (id : ℕ) (header : List ℕ) (limit : ℕ)
-    → chunkAt id header [] limit 1 ≡ record { request-id = id; header = header; num-chunks = 1; chunk-num = 1; property = [] }
+    → chunkAt id header [] limit 1 ≡ chunkFrom id header 1 1 []
 unfolding chunkAt
 empty-body-chunk id header limit = rw (empty-pieces limit (length header))
 

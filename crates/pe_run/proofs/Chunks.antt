@@ -14,7 +14,7 @@ use lib.Seq.{append-snoc, ext-getD}
 use Rattle.seven_bit.specs.Parts.{joined}
 use Rattle.seven_bit.specs.Reply.{Reply, granted, refused}
 use Rattle.seven_bit.proofs.ReplyLaws.{both}
-use Rattle.pe_frame.specs.Chunk.{Chunk, Fields, readFields, chunkOf}
+use Rattle.pe_frame.specs.Chunk.{Chunk, chunkFrom, Fields, readFields, chunkOf}
 use Rattle.pe_frame.proofs.RoundTrip.{fields}
 use Rattle.pe_slot.specs.Slot.{Piece, bodyLen, inOrder, bodyOf}
 use Rattle.pe_chunker.specs.Cut.{laterCapacity, bodyPieces, chunkAt}
@@ -80,7 +80,7 @@ perm-good {n} {header} {body} {cs} {ds} p g =
 
 -- ---- chunks by number, from k on
 abbrev numbered : ℕ → List ℕ → ℕ → ℕ → List ℕ → Chunk
-numbered id header n k property = record { request-id = id; header = cond (eqb k 1) header []; num-chunks = n; chunk-num = k; property = property }
+numbered id header n k property = chunkFrom id (cond (eqb k 1) header []) n k property
 
 module _ (id : ℕ) (header : List ℕ) (n : ℕ) where
   unfoldable chunksFrom : ℕ → List (List ℕ) → List Chunk
@@ -175,7 +175,7 @@ chunks-good id header ss h b o r =
 -- ---- the chunk that stands in bytes
 abbrev chunkRead : List ℕ → Reply Fields → Chunk
 chunkRead bytes (granted f) = chunkOf bytes f
-chunkRead bytes (refused number value) = record { request-id = 0; header = []; num-chunks = 0; chunk-num = 0; property = [] }
+chunkRead bytes (refused number value) = chunkFrom 0 [] 0 0 []
 
 unfoldable pub chunkIn : List ℕ → Chunk
 chunkIn bytes = chunkRead bytes (readFields bytes)

@@ -8,7 +8,7 @@ use mathlib.Core.List.{List, [], _∷_, _++_}
 use lib.ListN.{drop, replicate}
 use Rattle.seven_bit.specs.Reply.{granted, refused}
 use Rattle.midici_core.specs.Header.{headerBytes}
-use Rattle.pe_frame.specs.Chunk.{Chunk}
+use Rattle.pe_frame.specs.Chunk.{Chunk, chunkFrom}
 use Rattle.pe_frame.specs.Write.{chunkBytes, headerFor}
 use Rattle.pe_slot.specs.Feed.{still, lengths}
 use Rattle.pe_run.specs.Calls.{Call, feed, feed-message, cancel, drop-peer, poll, memory-stats, Answer, fed, was-open, counted, timed-out, totals}
@@ -35,10 +35,10 @@ abbrev pub body : List ℕ
 body = 10 ∷ 20 ∷ 30 ∷ []
 
 abbrev pub one : Chunk
-one = record { request-id = 5; header = header; num-chunks = 2; chunk-num = 1; property = [] }
+one = chunkFrom 5 header 2 1 []
 
 abbrev pub two : Chunk
-two = record { request-id = 5; header = []; num-chunks = 2; chunk-num = 2; property = body }
+two = chunkFrom 5 [] 2 2 body
 
 -- the first one from peer 9 to peer 7 in a message of kind 34, and the second one without its last byte
 unfoldable pub oneInMessage : List ℕ
@@ -49,7 +49,7 @@ torn = 5 ∷ 0 ∷ 0 ∷ 2 ∷ 0 ∷ 2 ∷ 0 ∷ 3 ∷ 0 ∷ 10 ∷ 20 ∷ []
 
 -- ---- one of three chunks under another peer or request id
 abbrev pub other : ℕ → ℕ → Chunk
-other request-id number = record { request-id = request-id; header = []; num-chunks = 3; chunk-num = number; property = 9 ∷ [] }
+other request-id number = chunkFrom request-id [] 3 number (9 ∷ [])
 
 -- ---- the calls
 abbrev pub before : List Call

@@ -11,7 +11,7 @@ use lib.Dec.{leb, eqb}
 use lib.ListN.{length, take}
 use Rattle.seven_bit.proofs.ReplyLaws.{and-told}
 use Rattle.seven_bit.specs.Reply.{refused}
-use Rattle.pe_frame.specs.Chunk.{Chunk}
+use Rattle.pe_frame.specs.Chunk.{Chunk, chunkFrom}
 use Rattle.pe_slot.specs.declared.records.Pass.{Pass}
 use Rattle.pe_slot.specs.declared.layout.TxSlot.{TxSlot}
 use Rattle.pe_slot.specs.Layout.{slotWords}
@@ -161,9 +161,9 @@ module _ (words index header arena : List ℕ) (c : Chunk) (now-ms tick : ℕ) (
     -- w: the words of the slot that was touched
     pub fed-sound : {w : List ℕ} {a : SlotLeft} → isSound (length header) (length arena) (length index) (slotOf words) index ≡ true → length (c .property) ≤ 16383
         → w ≡ wordsOf (touched (slotOf words) (c .request-id) now-ms tick)
-        → a ≡ placed (slotOf w) index header arena (record { request-id = slotOf w .«request_id»; header = c .header; num-chunks = c .num-chunks; chunk-num = c .chunk-num; property = c .property })
+        → a ≡ placed (slotOf w) index header arena (chunkFrom (slotOf w .«request_id») (c .header) (c .num-chunks) (c .chunk-num) (c .property))
         (judge (length header) (length arena) (length index) (contents (slotOf w) index header arena)
-        (record { request-id = slotOf w .«request_id»; header = c .header; num-chunks = c .num-chunks; chunk-num = c .chunk-num; property = c .property })) out-header out-body
+        (chunkFrom (slotOf w .«request_id») (c .header) (c .num-chunks) (c .chunk-num) (c .property))) out-header out-body
         → a ≡ feedSlot words index header arena c now-ms tick out-header out-body
     unfolding feedSlot contents
     fed-sound y l e q = q ∙ rw (e, s, y, le-leb _ _ l)

@@ -9,12 +9,12 @@ use denote.Ref.{now}
 use Rattle.seven_bit.specs.Reply.{granted}
 use Rattle.seven_bit.proofs.PartLaws.{put-front, length-put}
 use Rattle.seven_bit.proofs.ReplyLaws.{wrote, same-grant}
-use Rattle.pe_frame.specs.Chunk.{Chunk}
+use Rattle.pe_frame.specs.Chunk.{Chunk, chunkFrom}
 use Rattle.pe_frame.specs.Write.{InRange, chunkLen, chunkLenTold, chunkBytes}
 use Rattle.pe_frame.proofs.ChunkLaws.{ask-told, write-refused, write-short, write-granted, chunk-length}
 
 abbrev chunk : tie.Start → Chunk
-chunk c = record { request-id = c .args .request-id; header = now (c .args .header); num-chunks = c .args .num-chunks; chunk-num = c .args .chunk-num; property = now (c .args .property) }
+chunk c = chunkFrom (c .args .request-id) (now (c .args .header)) (c .args .num-chunks) (c .args .chunk-num) (now (c .args .property))
 
 abbrev size : tie.Start → ℕ
 size c = 9 + length (now (c .args .header)) + length (now (c .args .property))

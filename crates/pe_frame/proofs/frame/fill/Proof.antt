@@ -10,12 +10,12 @@ use denote.Ref.{now}
 use Rattle.seven_bit.specs.Parts.{put}
 use Rattle.seven_bit.specs.SevenBit.{bytesOf}
 use Rattle.seven_bit.proofs.PartLaws.{length-put, put-one}
-use Rattle.pe_frame.specs.Chunk.{Chunk}
+use Rattle.pe_frame.specs.Chunk.{Chunk, chunkFrom}
 use Rattle.pe_frame.proofs.ChunkLaws.{up-to-size, up-to-header, up-to-count, up-to-number, up-to-length, up-to-end, size-length, header-length, count-length, number-length, length-length, put-on, fit-on}
 
 -- the chunk, and what was lent for it
 abbrev chunk : tie.Start → Chunk
-chunk c = record { request-id = c .args .request-id; header = now (c .args .header); num-chunks = c .args .num-chunks; chunk-num = c .args .chunk-num; property = now (c .args .property) }
+chunk c = chunkFrom (c .args .request-id) (now (c .args .header)) (c .args .num-chunks) (c .args .chunk-num) (now (c .args .property))
 
 abbrev lent : tie.Start → List ℕ
 lent c = now (c .args .out)

@@ -15,13 +15,13 @@ use Rattle.seven_bit.proofs.ReplyLaws.{wrote, same-grant}
 use Rattle.midici_core.specs.Header.{headerBytes, within28}
 use Rattle.midici_core.specs.Kinds.{carriesChunk}
 use Rattle.midici_core.proofs.HeaderLaws.{header-length}
-use Rattle.pe_frame.specs.Chunk.{Chunk}
+use Rattle.pe_frame.specs.Chunk.{Chunk, chunkFrom}
 use Rattle.pe_frame.specs.Write.{InRange, chunkBytes, chunkLenTold, headerFor, writeWhole}
 use Rattle.pe_frame.proofs.ChunkLaws.{ask-told, put-on}
 use Rattle.pe_frame.proofs.MessageLaws.{wholeBytes, whole-length, whole-granted, whole-short, whole-refused}
 
 abbrev chunk : tie.Start → Chunk
-chunk c = record { request-id = c .args .request-id; header = now (c .args .header); num-chunks = c .args .num-chunks; chunk-num = c .args .chunk-num; property = now (c .args .property) }
+chunk c = chunkFrom (c .args .request-id) (now (c .args .header)) (c .args .num-chunks) (c .args .chunk-num) (now (c .args .property))
 
 abbrev size : tie.Start → ℕ
 size c = 9 + length (now (c .args .header)) + length (now (c .args .property))

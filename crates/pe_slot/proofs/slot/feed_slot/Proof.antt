@@ -4,7 +4,7 @@ use lib.ListN.{length, take}
 use borrow.Author.Needs.{needs}
 use borrow.Author.Tests.{not-true, not-false}
 use denote.Ref.{now}
-use Rattle.pe_frame.specs.Chunk.{Chunk}
+use Rattle.pe_frame.specs.Chunk.{Chunk, chunkFrom}
 use Rattle.pe_slot.specs.Memory.{slotOf, isSound}
 use Rattle.pe_slot.specs.Records.{holds}
 use Rattle.pe_slot.specs.Feed.{isShaped}
@@ -24,7 +24,7 @@ abbrev after : tie.After-held → tie.After-soundness-of
 after c = c .before .before
 
 abbrev chunk : tie.Start → Chunk
-chunk s = record { request-id = s .args .request-id; header = now (s .args .chunk-header); num-chunks = s .args .num-chunks; chunk-num = s .args .chunk-num; property = now (s .args .property) }
+chunk s = chunkFrom (s .args .request-id) (now (s .args .chunk-header)) (s .args .num-chunks) (s .args .chunk-num) (now (s .args .property))
 
 is-shaped : (c : tie.Else1) → (let s = start (c .before) in isShaped (now (s .args .words)) (now (s .args .index)) (now (s .args .header)) (now (s .args .arena)) (now (s .args .out-header)) (now (s .args .out-body)) ≡ true)
 is-shaped c = sym (c .before .is-shaped .ensures) ∙ not-false _ (c .if1 .left)

@@ -2,7 +2,7 @@ use mathlib.Core.Path.{ap}
 use native.Mathlib.Omega.{arith}
 use borrow.Author.Tests.{not-true, not-false}
 use denote.Ref.{now}
-use Rattle.pe_frame.specs.Chunk.{Chunk}
+use Rattle.pe_frame.specs.Chunk.{Chunk, chunkFrom}
 use Rattle.pe_slot.specs.Memory.{slotOf}
 use Rattle.pe_slot.specs.Steps.{askedTold}
 use Rattle.pe_slot.proofs.StepEnds.{Reaching, header-no, ready-header, count-no, ready-count, piece-no, ready-piece, all-passed}
@@ -12,7 +12,7 @@ use Rattle.pe_slot.proofs.slot.feed_sound.Tie as tie
 
 abbrev chunk : tie.Start → Chunk
 chunk s =
-    record { request-id = slotOf (now (s .args .words)) .«request_id»; header = now (s .args .chunk-header); num-chunks = s .args .num-chunks; chunk-num = s .args .chunk-num; property = now (s .args .property) }
+    chunkFrom (slotOf (now (s .args .words)) .«request_id») (now (s .args .chunk-header)) (s .args .num-chunks) (s .args .chunk-num) (now (s .args .property))
 
 reaching : (s : tie.Start) → Reaching (now (s .args .words)) (now (s .args .index)) (now (s .args .header)) (now (s .args .arena)) (chunk s) (s .args .held) (now (s .args .out-header)) (now (s .args .out-body))
 reaching s = record { ready = s .pre .0; named = (let f = s .fits in let g = s .good in omega arith); short = s .pre .1 .0; holding = s .pre .1 .1 }
