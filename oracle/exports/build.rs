@@ -1,10 +1,11 @@
-//! Writes the declarations of the port's exports, from the source of the crates that have them, and names the archives that a
-//! program is linked with where it calls them.
+//! Writes the declarations of the port's exports, from the source that has them, and names the archives that a program is
+//! linked with where it calls them.
 use std::fmt::Write;
 use std::path::{Path, PathBuf};
 use std::{env, fs};
 
-const CRATES: [&str; 3] = ["hub", "hub_message", "codec_exports"];
+/// The folders and files below crates/ that have the exports, and the structs that these take and answer.
+const SOURCES: [&str; 4] = ["hub/src", "hub_message/src", "codec_exports/src", "pe_reassembler/src/shape.rt"];
 /// Their archives below target/lib: hub_message's exports are in the first.
 const ARCHIVES: [&str; 2] = ["midici_pe", "codec_exports"];
 
@@ -26,7 +27,7 @@ struct Function<'a> {
 
 fn main() {
     let root = PathBuf::from(env::var("CARGO_MANIFEST_DIR").unwrap()).join("../..");
-    let source: String = CRATES.iter().map(|name| source(&root.join("crates").join(name).join("src"))).collect();
+    let source: String = SOURCES.iter().map(|place| source(&root.join("crates").join(place))).collect();
     let written = written(&structs(&source), &functions(&source));
     fs::write(PathBuf::from(env::var("OUT_DIR").unwrap()).join("exports.rs"), written).unwrap();
     let place = root.join("target/lib");
@@ -37,11 +38,14 @@ fn main() {
     }
 }
 
-/// The files of a folder, without their comments.
-fn source(folder: &Path) -> String {
-    println!("cargo:rerun-if-changed={}", folder.display());
-    let mut files: Vec<PathBuf> = fs::read_dir(folder).unwrap().map(|file| file.unwrap().path()).collect();
-    files.sort();
+/// A file, or the files of a folder, without their comments.
+fn source(place: &Path) -> String {
+    println!("cargo:rerun-if-changed={}", place.display());
+    let mut files = vec![place.to_owned()];
+    if place.is_dir() {
+        files = fs::read_dir(place).unwrap().map(|file| file.unwrap().path()).collect();
+        files.sort();
+    }
     let text: String = files.iter().map(|file| fs::read_to_string(file).unwrap() + "\n").collect();
     text.lines().map(|line| line.split("//").next().unwrap().to_owned() + "\n").collect()
 }

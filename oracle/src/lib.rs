@@ -1,5 +1,6 @@
 //! The original's side of the comparison: the functions that are compared, their inputs as bytes, runs of calls on a table, and
 //! the original's answers.
+pub mod call;
 pub mod case;
 pub mod damage;
 pub mod export;
@@ -7,6 +8,7 @@ mod functions;
 pub mod input;
 mod inputs;
 pub mod layout;
+pub mod lent;
 pub mod op;
 pub mod original;
 pub mod outcome;

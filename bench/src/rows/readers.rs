@@ -95,7 +95,7 @@ fn capabilities(inputs: Inputs) -> Row {
     let decode: FromPort<exports::CapsAnswer> = black_box(raw::codec_caps_decode);
     let rust: FromRust<PeCapabilities, _> = black_box(PeCapabilities::decode);
     let by_port = move |input: &'static [u8]| {
-        let caps = unsafe { decode(input.as_ptr(), input.len()) }.caps;
+        let caps = unsafe { decode(input.as_ptr(), input.len()) };
         let [device, kind, version, source, dest] = port_header(&caps.header);
         [device, kind, version, source, dest, caps.simultaneous_requests as u64]
     };

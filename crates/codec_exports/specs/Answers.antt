@@ -12,10 +12,9 @@ use Rattle.midici_core.specs.Kinds.{KindRow}
 use Rattle.pe_frame.specs.Chunk.{Fields}
 use Rattle.codec_exports.specs.declared.answer.HeaderFields.{HeaderFields}
 use Rattle.codec_exports.specs.declared.answer.HeaderAnswer.{HeaderAnswer}
-use Rattle.codec_exports.specs.declared.answer.CapsFields.{CapsFields}
 use Rattle.codec_exports.specs.declared.answer.CapsAnswer.{CapsAnswer}
 use Rattle.codec_exports.specs.declared.answer.MessageAnswer.{MessageAnswer}
-use Rattle.codec_exports.specs.declared.answer.ChunkAnswer.{ChunkAnswer}
+use Rattle.codec_exports.specs.declared.pe.ChunkAnswer.{ChunkAnswer}
 use Rattle.codec_exports.specs.declared.answer.KindAnswer.{KindAnswer}
 use Rattle.codec_exports.specs.declared.answer.GeneratedAnswer.{GeneratedAnswer}
 
@@ -29,28 +28,18 @@ headerOut h = record { «device_id» = h .device; «sub_id2» = h .kind; version
 abbrev pub noHeader : Header
 noHeader = record { device = 0; kind = 0; version = 0; source = 0; dest = 0 }
 
-abbrev pub headerAnswer : ℕ → ℕ → HeaderFields → HeaderAnswer
-headerAnswer number value h = record { refusal = number; value = value; header = h }
-
 abbrev pub headerAnswerOf : Reply Header → HeaderAnswer
-headerAnswerOf (granted h) = headerAnswer 0 0 (headerOut h)
-headerAnswerOf (refused number value) = headerAnswer number value (headerOut noHeader)
+headerAnswerOf (granted h) = record { refusal = 0; value = 0; header = headerOut h }
+headerAnswerOf (refused number value) = record { refusal = number; value = value; header = headerOut noHeader }
 
-abbrev pub capsIn : CapsFields → Caps
-capsIn c = record { header = headerIn (c .header); requests = c .«simultaneous_requests»; major = c .«pe_major»; minor = c .«pe_minor» }
-
-abbrev pub capsOut : Caps → CapsFields
-capsOut c = record { header = headerOut (c .header); «simultaneous_requests» = c .requests; «pe_major» = c .major; «pe_minor» = c .minor }
-
-abbrev pub noCaps : Caps
-noCaps = record { header = noHeader; requests = 0; major = 0; minor = 0 }
-
-abbrev pub capsAnswer : ℕ → ℕ → CapsFields → CapsAnswer
-capsAnswer number value c = record { refusal = number; value = value; caps = c }
+abbrev pub capsIn : HeaderFields → ℕ → ℕ → ℕ → Caps
+capsIn h requests major minor = record { header = headerIn h; requests = requests; major = major; minor = minor }
 
 abbrev pub capsAnswerOf : Reply Caps → CapsAnswer
-capsAnswerOf (granted c) = capsAnswer 0 0 (capsOut c)
-capsAnswerOf (refused number value) = capsAnswer number value (capsOut noCaps)
+capsAnswerOf (granted c) =
+    record { refusal = 0; value = 0; header = headerOut (c .header); «simultaneous_requests» = c .requests; «pe_major» = c .major; «pe_minor» = c .minor }
+capsAnswerOf (refused number value) =
+    record { refusal = number; value = value; header = headerOut noHeader; «simultaneous_requests» = 0; «pe_major» = 0; «pe_minor» = 0 }
 
 abbrev pub messageAnswerOf : Reply Message → MessageAnswer
 messageAnswerOf (granted m) = record { refusal = 0; value = 0; header = headerOut (m .header); «payload_at» = m .payload-at; «payload_len» = m .payload-len }

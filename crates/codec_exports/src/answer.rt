@@ -1,8 +1,7 @@
-// What the exports answer, as structs of numbers. With a refusal every other field is 0; else the refusal's number and value
-// are 0.
+// What the exports of midici_core answer, as structs of numbers. With a refusal every other field is 0; else the refusal's
+// number and value are 0.
 use hub::answer::Answer;
 use hub::answer::counted;
-use hub::answer::pe_refused;
 use hub::answer::turned_down;
 use midici_core::error::CiError;
 use midici_core::header::CiEncoded;
@@ -12,78 +11,18 @@ use midici_core::muid::Generated;
 use midici_core::muid::Muid;
 use midici_core::muid::MuidRead;
 use midici_core::pe_caps::CapsRead;
-use midici_core::pe_caps::PeCapabilities;
 use midici_core::pe_msg::MessageRead;
 use midici_core::spec::KindFound;
-use pe_chunker::Capacity;
-use pe_frame::frame::ChunkRead;
-use pe_wire::wire::U14;
 ghost use mathlib.Core.Path.{_≡_};
-ghost use Rattle.midici_core.specs.Caps.{capsOf, capsTold};
+ghost use Rattle.midici_core.specs.Caps.{capsTold};
 ghost use Rattle.midici_core.specs.Errors.{ciNumber, ciValue};
 ghost use Rattle.midici_core.specs.Header.{headerOf, headerTold, ciEncodedTold};
 ghost use Rattle.midici_core.specs.Kinds.{kindTold};
 ghost use Rattle.midici_core.specs.Message.{messageTold};
 ghost use Rattle.midici_core.specs.Muid.{muidTold, generatedTold};
 ghost use Rattle.seven_bit.specs.Reply.{refused};
-ghost use Rattle.pe_wire.specs.Wire.{u14Told};
-ghost use Rattle.pe_frame.specs.Chunk.{chunkTold};
-ghost use Rattle.pe_chunker.specs.Cut.{capacityTold};
 ghost use Rattle.hub.specs.Answers.{answerOf};
-ghost use Rattle.codec_exports.specs.Answers.{headerIn, headerOut, headerAnswerOf, capsOut, capsAnswerOf};
-ghost use Rattle.codec_exports.specs.Answers.{messageAnswerOf, chunkAnswerOf, kindAnswerOf, generatedAnswerOf};
-
-#[repr(C)]
-pub struct HeaderFields {
-    pub device_id: u8,
-    pub sub_id2: u8,
-    pub version: u8,
-    pub source: u32,
-    pub dest: u32,
-}
-
-#[repr(C)]
-pub struct HeaderAnswer {
-    pub refusal: u8,
-    pub value: u8,
-    pub header: HeaderFields,
-}
-
-#[repr(C)]
-pub struct CapsFields {
-    pub header: HeaderFields,
-    pub simultaneous_requests: u8,
-    pub pe_major: u8,
-    pub pe_minor: u8,
-}
-
-#[repr(C)]
-pub struct CapsAnswer {
-    pub refusal: u8,
-    pub value: u8,
-    pub caps: CapsFields,
-}
-
-#[repr(C)]
-pub struct MessageAnswer {
-    pub refusal: u8,
-    pub value: u8,
-    pub header: HeaderFields,
-    pub payload_at: u64,
-    pub payload_len: u64,
-}
-
-#[repr(C)]
-pub struct ChunkAnswer {
-    pub refusal: u8,
-    pub value: u8,
-    pub request_id: u8,
-    pub header_len: u64,
-    pub num_chunks: u16,
-    pub chunk_num: u16,
-    pub property_at: u64,
-    pub property_len: u64,
-}
+ghost use Rattle.codec_exports.specs.Answers.{kindAnswerOf, generatedAnswerOf, headerIn, headerOut, headerAnswerOf, capsAnswerOf, messageAnswerOf};
 
 // A kind's row; all 0 where it is none of the nine.
 #[repr(C)]
@@ -100,6 +39,41 @@ pub struct GeneratedAnswer {
     pub number: u32,
 }
 
+#[repr(C)]
+pub struct HeaderAnswer {
+    pub refusal: u8,
+    pub value: u8,
+    pub header: HeaderFields,
+}
+
+#[repr(C)]
+pub struct HeaderFields {
+    pub device_id: u8,
+    pub sub_id2: u8,
+    pub version: u8,
+    pub source: u32,
+    pub dest: u32,
+}
+
+#[repr(C)]
+pub struct CapsAnswer {
+    pub refusal: u8,
+    pub value: u8,
+    pub header: HeaderFields,
+    pub simultaneous_requests: u8,
+    pub pe_major: u8,
+    pub pe_minor: u8,
+}
+
+#[repr(C)]
+pub struct MessageAnswer {
+    pub refusal: u8,
+    pub value: u8,
+    pub header: HeaderFields,
+    pub payload_at: u64,
+    pub payload_len: u64,
+}
+
 const NO_HEADER: HeaderFields = HeaderFields {
     device_id: 0,
     sub_id2: 0,
@@ -108,34 +82,28 @@ const NO_HEADER: HeaderFields = HeaderFields {
     dest: 0,
 };
 
-const NO_CAPS: CapsFields = CapsFields {
-    header: NO_HEADER,
-    simultaneous_requests: 0,
-    pe_major: 0,
-    pe_minor: 0,
-};
-
 fn ci_refused(e: CiError) -> Answer
     ensures { λ r. ⌜ r ≡ answerOf (refused (ciNumber e) (ciValue e)) ⌝ }
 {
     turned_down(e.number(), e.value())
 }
 
-pub(crate) fn u14_read(a: U14) -> Answer
-    ensures { λ r. ⌜ r ≡ answerOf (u14Told a) ⌝ }
+pub(crate) fn kind_found(a: KindFound) -> KindAnswer
+    ensures { λ r. ⌜ r ≡ kindAnswerOf (kindTold a) ⌝ }
 {
     match a {
-        U14::Value(v) => counted(v as u64),
-        U14::Refused(e) => pe_refused(e),
-    }
-}
-
-pub(crate) fn ci_encoded(a: CiEncoded) -> Answer
-    ensures { λ r. ⌜ r ≡ answerOf (ciEncodedTold a) ⌝ }
-{
-    match a {
-        CiEncoded::Wrote(n) => counted(n as u64),
-        CiEncoded::Refused(e) => ci_refused(e),
+        KindFound::Known(k) => KindAnswer {
+            known: true,
+            sub_id2: k.sub_id2,
+            chunked: k.chunked,
+            reply: k.reply,
+        },
+        KindFound::Unknown => KindAnswer {
+            known: false,
+            sub_id2: 0,
+            chunked: false,
+            reply: 0,
+        },
     }
 }
 
@@ -159,25 +127,6 @@ pub(crate) fn generated(a: Generated) -> GeneratedAnswer
         Generated::Nothing => GeneratedAnswer {
             found: false,
             number: 0,
-        },
-    }
-}
-
-pub(crate) fn kind_found(a: KindFound) -> KindAnswer
-    ensures { λ r. ⌜ r ≡ kindAnswerOf (kindTold a) ⌝ }
-{
-    match a {
-        KindFound::Known(k) => KindAnswer {
-            known: true,
-            sub_id2: k.sub_id2,
-            chunked: k.chunked,
-            reply: k.reply,
-        },
-        KindFound::Unknown => KindAnswer {
-            known: false,
-            sub_id2: 0,
-            chunked: false,
-            reply: 0,
         },
     }
 }
@@ -223,14 +172,12 @@ pub(crate) fn header_read(a: HeaderRead) -> HeaderAnswer
     }
 }
 
-fn caps_out(c: PeCapabilities) -> CapsFields
-    ensures { λ r. ⌜ r ≡ capsOut (capsOf c) ⌝ }
+pub(crate) fn ci_encoded(a: CiEncoded) -> Answer
+    ensures { λ r. ⌜ r ≡ answerOf (ciEncodedTold a) ⌝ }
 {
-    CapsFields {
-        header: header_out(c.header),
-        simultaneous_requests: c.simultaneous_requests,
-        pe_major: c.pe_major,
-        pe_minor: c.pe_minor,
+    match a {
+        CiEncoded::Wrote(n) => counted(n as u64),
+        CiEncoded::Refused(e) => ci_refused(e),
     }
 }
 
@@ -241,12 +188,18 @@ pub(crate) fn caps_read(a: CapsRead) -> CapsAnswer
         CapsRead::Value(c) => CapsAnswer {
             refusal: 0,
             value: 0,
-            caps: caps_out(c),
+            header: header_out(c.header),
+            simultaneous_requests: c.simultaneous_requests,
+            pe_major: c.pe_major,
+            pe_minor: c.pe_minor,
         },
         CapsRead::Refused(e) => CapsAnswer {
             refusal: e.number(),
             value: e.value(),
-            caps: NO_CAPS,
+            header: NO_HEADER,
+            simultaneous_requests: 0,
+            pe_major: 0,
+            pe_minor: 0,
         },
     }
 }
@@ -269,41 +222,5 @@ pub(crate) fn message_read(a: MessageRead) -> MessageAnswer
             payload_at: 0,
             payload_len: 0,
         },
-    }
-}
-
-pub(crate) fn chunk_read(a: ChunkRead) -> ChunkAnswer
-    ensures { λ r. ⌜ r ≡ chunkAnswerOf (chunkTold a) ⌝ }
-{
-    match a {
-        ChunkRead::Value(f) => ChunkAnswer {
-            refusal: 0,
-            value: 0,
-            request_id: f.request_id,
-            header_len: f.header_len as u64,
-            num_chunks: f.num_chunks,
-            chunk_num: f.chunk_num,
-            property_at: f.property_at as u64,
-            property_len: f.property_len as u64,
-        },
-        ChunkRead::Refused(e) => ChunkAnswer {
-            refusal: e.number(),
-            value: e.value(),
-            request_id: 0,
-            header_len: 0,
-            num_chunks: 0,
-            chunk_num: 0,
-            property_at: 0,
-            property_len: 0,
-        },
-    }
-}
-
-pub(crate) fn capacity(a: Capacity) -> Answer
-    ensures { λ r. ⌜ r ≡ answerOf (capacityTold a) ⌝ }
-{
-    match a {
-        Capacity::Bytes(n) => counted(n as u64),
-        Capacity::Refused(e) => pe_refused(e),
     }
 }

@@ -1,6 +1,5 @@
 // The exports of midici_core.
 use crate::answer::CapsAnswer;
-use crate::answer::CapsFields;
 use crate::answer::GeneratedAnswer;
 use crate::answer::HeaderAnswer;
 use crate::answer::HeaderFields;
@@ -116,14 +115,21 @@ pub extern "C" fn codec_caps_decode(body: &[u8]) -> CapsAnswer
 }
 
 #[no_mangle]
-pub extern "C" fn codec_caps_encode(caps: CapsFields, out: &mut [u8]) -> Answer
-    ensures { λ r. ⌜ written r (now (out .exit)) ≡ writtenOf (writing (writeCaps (capsIn caps) (length (now (out .entry)))) (now (out .entry))) ⌝ }
+pub extern "C" fn codec_caps_encode(
+    header: HeaderFields,
+    simultaneous_requests: u8,
+    pe_major: u8,
+    pe_minor: u8,
+    out: &mut [u8],
+) -> Answer
+    ensures { λ r. ⌜ written r (now (out .exit))
+        ≡ writtenOf (writing (writeCaps (capsIn header «simultaneous_requests» «pe_major» «pe_minor») (length (now (out .entry)))) (now (out .entry))) ⌝ }
 {
     let caps = PeCapabilities {
-        header: header_in(caps.header),
-        simultaneous_requests: caps.simultaneous_requests,
-        pe_major: caps.pe_major,
-        pe_minor: caps.pe_minor,
+        header: header_in(header),
+        simultaneous_requests,
+        pe_major,
+        pe_minor,
     };
     ci_encoded(caps.encode(out))
 }

@@ -1,22 +1,81 @@
 // The exports of pe_wire, pe_mcoded7, pe_frame, pe_chunker and pe_controller; those that hub has are not among them.
-use crate::answer::ChunkAnswer;
-use crate::answer::capacity;
-use crate::answer::chunk_read;
-use crate::answer::u14_read;
 use hub::answer::Answer;
+use hub::answer::counted;
 use hub::answer::pe_encoded;
+use hub::answer::pe_refused;
+use pe_chunker::Capacity;
 use pe_controller::RequestCounter;
+use pe_frame::frame::ChunkRead;
+use pe_wire::wire::U14;
 ghost use mathlib.Core.Path.{_≡_};
 ghost use lib.ListN.{length};
 ghost use Rattle.seven_bit.specs.Reply.{andThen, writing};
-ghost use Rattle.pe_wire.specs.Wire.{readU14, writeU14};
+ghost use Rattle.pe_wire.specs.Wire.{u14Told, readU14, writeU14};
 ghost use Rattle.pe_mcoded7.specs.Mcoded7.{readMcoded7, writeMcoded7};
 ghost use Rattle.pe_controller.specs.Controller.{negotiated};
-ghost use Rattle.pe_frame.specs.Chunk.{readFields, readChunk, chunkFrom};
+ghost use Rattle.pe_frame.specs.Chunk.{chunkTold, readFields, readChunk, chunkFrom};
 ghost use Rattle.pe_frame.specs.Write.{writeChunk};
-ghost use Rattle.pe_chunker.specs.Cut.{clamped, budget, askFirst, laterCapacity};
+ghost use Rattle.pe_chunker.specs.Cut.{capacityTold, clamped, budget, askFirst, laterCapacity};
 ghost use Rattle.hub.specs.Answers.{answerOf, written, writtenOf};
 ghost use Rattle.codec_exports.specs.Answers.{chunkAnswerOf};
+
+// With a refusal every other field is 0; else the refusal's number and value are 0.
+#[repr(C)]
+pub struct ChunkAnswer {
+    pub refusal: u8,
+    pub value: u8,
+    pub request_id: u8,
+    pub header_len: u64,
+    pub num_chunks: u16,
+    pub chunk_num: u16,
+    pub property_at: u64,
+    pub property_len: u64,
+}
+
+fn u14_read(a: U14) -> Answer
+    ensures { λ r. ⌜ r ≡ answerOf (u14Told a) ⌝ }
+{
+    match a {
+        U14::Value(v) => counted(v as u64),
+        U14::Refused(e) => pe_refused(e),
+    }
+}
+
+fn chunk_read(a: ChunkRead) -> ChunkAnswer
+    ensures { λ r. ⌜ r ≡ chunkAnswerOf (chunkTold a) ⌝ }
+{
+    match a {
+        ChunkRead::Value(f) => ChunkAnswer {
+            refusal: 0,
+            value: 0,
+            request_id: f.request_id,
+            header_len: f.header_len as u64,
+            num_chunks: f.num_chunks,
+            chunk_num: f.chunk_num,
+            property_at: f.property_at as u64,
+            property_len: f.property_len as u64,
+        },
+        ChunkRead::Refused(e) => ChunkAnswer {
+            refusal: e.number(),
+            value: e.value(),
+            request_id: 0,
+            header_len: 0,
+            num_chunks: 0,
+            chunk_num: 0,
+            property_at: 0,
+            property_len: 0,
+        },
+    }
+}
+
+fn capacity(a: Capacity) -> Answer
+    ensures { λ r. ⌜ r ≡ answerOf (capacityTold a) ⌝ }
+{
+    match a {
+        Capacity::Bytes(n) => counted(n as u64),
+        Capacity::Refused(e) => pe_refused(e),
+    }
+}
 
 #[no_mangle]
 pub extern "C" fn codec_read_u14_le7(bytes: &[u8]) -> Answer

@@ -5,7 +5,6 @@
 // `make vectors` writes the list.
 mod table;
 
-use codec_exports::answer::CapsFields;
 use codec_exports::answer::HeaderFields;
 use hub::answer::Answer;
 use libc::STDOUT_FILENO;
@@ -127,13 +126,14 @@ fn header_in(s: &[u8]) -> HeaderFields {
     }
 }
 
-fn caps_in(s: &[u8]) -> CapsFields {
-    CapsFields {
-        header: header_in(s),
-        simultaneous_requests: u8_at(s, 13),
-        pe_major: u8_at(s, 14),
-        pe_minor: u8_at(s, 15),
-    }
+fn caps_encode(s: &[u8], out: &mut [u8]) -> Answer {
+    codec_exports::ci::codec_caps_encode(
+        header_in(s),
+        u8_at(s, 13),
+        u8_at(s, 14),
+        u8_at(s, 15),
+        out,
+    )
 }
 
 fn chunk_encode(s: &[u8], out: &mut [u8]) -> Answer {
@@ -177,7 +177,7 @@ fn write(op: u8, s: &[u8], out: &mut [u8]) -> Answer {
     match op {
         2 => codec_exports::pe::codec_write_u14_le7(u16_at(s, 2), out),
         11 => codec_exports::ci::codec_header_encode(header_in(s), out),
-        15 => codec_exports::ci::codec_caps_encode(caps_in(s), out),
+        15 => caps_encode(s, out),
         17 => codec_exports::ci::codec_message_encode(header_in(s), from(s, 13), out),
         18 => codec_exports::pe::codec_mcoded7_decode(from(s, 2), out),
         19 => codec_exports::pe::codec_mcoded7_encode(from(s, 2), out),
@@ -253,12 +253,11 @@ fn kind_of(s: &[u8]) {
 
 fn caps_decode(s: &[u8]) {
     let answer = codec_exports::ci::codec_caps_decode(s);
-    let caps = answer.caps;
     if answer.refusal == 0 {
-        print_header(caps.header);
-        print_byte(caps.simultaneous_requests);
-        print_byte(caps.pe_major);
-        print_byte(caps.pe_minor);
+        print_header(answer.header);
+        print_byte(answer.simultaneous_requests);
+        print_byte(answer.pe_major);
+        print_byte(answer.pe_minor);
     } else {
         print_refusal(answer.refusal, answer.value);
     }

@@ -1,12 +1,14 @@
 //! Random runs: a table, and the calls on it, one after the other.
 use super::damage::damage;
 use super::lists::{self, Sizes};
+use crate::call::What;
 use crate::damage::Damage;
 use crate::functions::chunks;
 use crate::inputs::{change, KINDS};
+use crate::lent::Lent;
 use crate::original::table::reached;
 use crate::rng::Rng;
-use crate::run::{Call, Lent, Start, What};
+use crate::run::{Call, Start};
 use midici_core::header::CiHeader;
 use midici_core::muid::Muid;
 use midici_core::pe_msg::PeMessage;

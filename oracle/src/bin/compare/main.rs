@@ -8,11 +8,11 @@ mod state;
 mod summary;
 mod table;
 
+use oracle::call::What;
 use oracle::case::Case;
 use oracle::export::{Export, NONE_OF_HUB};
 use oracle::op::Op;
 use oracle::random::Rng;
-use oracle::run::What;
 use oracle::{original, random};
 use std::collections::BTreeSet;
 use std::process::ExitCode;

@@ -32,7 +32,7 @@ pub fn answer(case: &Case, mut lent: Vec<u8>) -> Found<Outcome> {
         Op::IsPeChunkedSubId => granted([exports::codec_is_pe_chunked_sub_id(u8_at(input, 0))]),
         Op::KindOf => kind_of(u8_at(input, 0)),
         Op::CapsDecode => caps_decode(input),
-        Op::CapsEncode => count(exports::codec_caps_encode(caps(input), out)),
+        Op::CapsEncode => caps_encode(header(input), from(input, Fields::END), out),
         Op::MessageDecode => return message_decode(input),
         Op::MessageEncode => count(exports::codec_message_encode(header(input), from(input, Fields::END), out)),
         Op::Mcoded7Decode => count(exports::codec_mcoded7_decode(from(input, 2), out)),
@@ -105,23 +105,15 @@ fn kind_of(kind: u8) -> Found<Reply> {
     granted([known, sub_id2, chunked, reply])
 }
 
-fn caps(input: &[u8]) -> exports::CapsFields {
-    let data = from(input, Fields::END);
-    exports::CapsFields {
-        header: header(input),
-        simultaneous_requests: u8_at(data, 0),
-        pe_major: u8_at(data, 1),
-        pe_minor: u8_at(data, 2),
-    }
+fn caps_encode(header: exports::HeaderFields, data: &[u8], out: &mut [u8]) -> Found<Reply> {
+    count(exports::codec_caps_encode(header, u8_at(data, 0), u8_at(data, 1), u8_at(data, 2), out))
 }
 
 fn caps_decode(body: &[u8]) -> Found<Reply> {
-    reply(exports::codec_caps_decode(body), |exports::CapsAnswer { refusal: _, value: _, caps }| {
-        let exports::CapsFields { header, simultaneous_requests, pe_major, pe_minor } = *caps;
-        let mut values = fields(header).values();
-        values.extend([simultaneous_requests, pe_major, pe_minor].map(u64::from));
-        values
-    })
+    let answer = exports::codec_caps_decode(body);
+    let exports::CapsAnswer { refusal: _, value: _, header, simultaneous_requests, pe_major, pe_minor } = answer;
+    let data = [simultaneous_requests, pe_major, pe_minor].map(u64::from);
+    reply(answer, |_| [&fields(header).values()[..], &data].concat())
 }
 
 /// The part of a message or of a chunk that an answer names.

@@ -3,13 +3,14 @@ use crate::state;
 use crate::summary::Summary;
 use crate::table::Table;
 use midici_pe::reassembler::{probe, probe::Rooms, Reassembler};
+use oracle::call::{Tells, What, Written};
 use oracle::damage::is_sound;
 use oracle::layout::{HEADER_BYTES, MAX_SLOTS, TX_BYTES};
 use oracle::original;
 use oracle::outcome::Answer;
 use oracle::random::runs::Script;
 use oracle::random::Rng;
-use oracle::run::{Call, Start, Tells, Told, What, Written};
+use oracle::run::{Call, Start, Told};
 
 /// One run in so many has all rooms compared after every call; the others when they end.
 const CLOSELY: u64 = 64;

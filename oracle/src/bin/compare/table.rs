@@ -1,8 +1,10 @@
 //! The port's side of a run: the memory that a table is lent, and its calls, through the exports of crates/hub.
 use crate::port::fill;
+use oracle::call::{What, Written};
 use oracle::damage::{Damage, Place};
 use oracle::layout::{self, CLOCK, FRAGMENT_RECORDS, HEADER_BYTES, MAX_PEERS, MAX_SLOTS, SLOT_WORDS, TX_BYTES};
-use oracle::run::{Call, Lent, Part, Start, Told, What, Written};
+use oracle::lent::{Lent, Part};
+use oracle::run::{Call, Start, Told};
 
 /// Places behind what the largest table needs.
 const BEHIND: usize = 8;
@@ -113,7 +115,12 @@ impl Table {
     }
 
     pub fn call(&mut self, call: &Call) -> Told {
-        let Shape { max_peers: n, header_bytes: h, tx_bytes: b, fragment_records: r } = self.shape(call.lent);
+        let Shape { max_peers, header_bytes, tx_bytes, fragment_records } = self.shape(call.lent);
+        macro_rules! on_table {
+            ($export:ident $(, $argument:expr)*) => {
+                exports::$export(max_peers, header_bytes, tx_bytes, fragment_records $(, $argument)*)
+            };
+        }
         let start = self.start;
         let front = |part| ..length(start, call, part);
         let numbers = &mut self.numbers[front(Part::Numbers)];
@@ -126,38 +133,37 @@ impl Table {
         let ids = &mut self.out_request_ids[front(Part::OutRequestIds)];
         let held = &mut self.out_chunks_held[front(Part::OutChunksHeld)];
         match call.what {
-            What::New => counted(exports::midici_pe_new(n, h, b, r, numbers, index, headers, arenas)),
-            What::Feed { peer, ref raw_chunk, now_ms: t } => fed(exports::midici_pe_feed(
-                n, h, b, r, numbers, index, headers, arenas, peer, raw_chunk, t, out_header, out_body,
-            )),
-            What::FeedMessage { ref body, now_ms: t } => {
-                fed(exports::midici_pe_feed_message(n, h, b, r, numbers, index, headers, arenas, body, t, out_header, out_body))
+            What::New => counted(on_table!(midici_pe_new, numbers, index, headers, arenas)),
+            What::Feed { peer, raw_chunk: ref chunk, now_ms } => {
+                fed(on_table!(midici_pe_feed, numbers, index, headers, arenas, peer, chunk, now_ms, out_header, out_body))
             }
-            What::Cancel { peer, request_id } => counted(exports::midici_pe_cancel(n, h, b, r, numbers, peer, request_id)),
-            What::DropPeer { peer } => counted(exports::midici_pe_drop_peer(n, h, b, r, numbers, peer)),
-            What::Poll { now_ms } => counted(exports::midici_pe_poll(n, h, b, r, numbers, now_ms, peers, ids)),
-            What::MemoryStats => totalled(exports::midici_pe_memory_stats(n, h, b, r, numbers)),
-            What::ReservedBytes => counted(exports::midici_pe_reserved_bytes(n, h, b, r)),
-            What::OpenList => counted(exports::midici_pe_open_list(n, h, b, r, numbers, peers, ids, held)),
+            What::FeedMessage { ref body, now_ms } => {
+                fed(on_table!(midici_pe_feed_message, numbers, index, headers, arenas, body, now_ms, out_header, out_body))
+            }
+            What::Cancel { peer, request_id } => counted(on_table!(midici_pe_cancel, numbers, peer, request_id)),
+            What::DropPeer { peer } => counted(on_table!(midici_pe_drop_peer, numbers, peer)),
+            What::Poll { now_ms } => counted(on_table!(midici_pe_poll, numbers, now_ms, peers, ids)),
+            What::MemoryStats => totalled(on_table!(midici_pe_memory_stats, numbers)),
+            What::ReservedBytes => counted(on_table!(midici_pe_reserved_bytes)),
+            What::OpenList => counted(on_table!(midici_pe_open_list, numbers, peers, ids, held)),
         }
     }
 
     /// Do the outputs begin with what was to be written, and hold what they held behind it? Then they are made as before:
-    /// how many bytes were compared.
+    /// how many bytes were compared. Of a call that is lent one of the columns all three are compared.
     pub fn outputs(&mut self, what: &What, written: &Written) -> Result<u64, String> {
-        match what {
-            What::Feed { .. } | What::FeedMessage { .. } => {
-                let header = output("out_header", &mut self.out_header, &written.header, &self.bytes_before)?;
-                Ok(header + output("out_body", &mut self.out_body, &written.body, &self.bytes_before)?)
-            }
-            What::Poll { .. } | What::OpenList => {
-                let peers = output("out_peers", &mut self.out_peers, &written.peers, &self.words_before)?;
-                let ids = output("out_request_ids", &mut self.out_request_ids, &written.request_ids, &self.words_before)?;
-                let held = output("out_chunks_held", &mut self.out_chunks_held, &written.held, &self.words_before)?;
-                Ok(8 * (peers + ids + held))
-            }
-            _ => Ok(0),
+        let is_lent = |parts: &[Part]| what.row().lent.iter().any(|part| parts.contains(part));
+        let mut bytes = 0;
+        if is_lent(&[Part::OutHeader, Part::OutBody]) {
+            bytes += output("out_header", &mut self.out_header, &written.header, &self.bytes_before)?;
+            bytes += output("out_body", &mut self.out_body, &written.body, &self.bytes_before)?;
         }
+        if is_lent(&[Part::OutPeers, Part::OutRequestIds, Part::OutChunksHeld]) {
+            bytes += 8 * output("out_peers", &mut self.out_peers, &written.peers, &self.words_before)?;
+            bytes += 8 * output("out_request_ids", &mut self.out_request_ids, &written.request_ids, &self.words_before)?;
+            bytes += 8 * output("out_chunks_held", &mut self.out_chunks_held, &written.held, &self.words_before)?;
+        }
+        Ok(bytes)
     }
 }
 

@@ -13,8 +13,8 @@ tells a = capsAnswerOf (capsTold a)
 enum-known-a : tie.Need-enum-known-a
 enum-known-a c = search needs
 
-caps-out-requires : tie.Need-caps-out-requires
-caps-out-requires c κs = search needs
+header-out-requires : tie.Need-header-out-requires
+header-out-requires c κs = search needs
 
 enum-known-a-2 : tie.Need-enum-known-a-2
 enum-known-a-2 c = search needs
@@ -26,7 +26,7 @@ value-requires : tie.Need-value-requires
 value-requires c κs = search needs
 
 returns : tie.Need-returns
-returns c = matched tells (c .before .before .a .given .1) (rw (c .caps-out .ensures))
+returns c = matched tells (c .before .before .a .given .1) (rw (c .header-out .ensures))
 
 returns-2 : tie.Need-returns-2
 returns-2 c = matched tells (c .before .before .before .a2 .given .1) (rw (c .before .number .ensures, c .value .ensures))
@@ -36,7 +36,7 @@ caps-read-spec =
     tie.close
     (tie.spec
     enum-known-a
-    caps-out-requires
+    header-out-requires
     enum-known-a-2
     number-requires
     value-requires

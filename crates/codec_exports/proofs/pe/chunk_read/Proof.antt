@@ -1,10 +1,10 @@
 use mathlib.Core.Path.{refl}
 use borrow.Author.Needs.{needs}
-use Rattle.codec_exports.proofs.answer.chunk_read.Statement.{statement}
-use Rattle.codec_exports.proofs.answer.chunk_read.Tie as tie
+use Rattle.codec_exports.proofs.pe.chunk_read.Statement.{statement}
+use Rattle.codec_exports.proofs.pe.chunk_read.Tie as tie
 use Rattle.pe_frame.specs.declared.frame.ChunkRead.{ChunkRead}
 use Rattle.pe_frame.specs.Chunk.{chunkTold}
-use Rattle.codec_exports.specs.declared.answer.ChunkAnswer.{ChunkAnswer}
+use Rattle.codec_exports.specs.declared.pe.ChunkAnswer.{ChunkAnswer}
 use Rattle.codec_exports.specs.Answers.{chunkAnswerOf}
 use Rattle.hub.proofs.AnswerLaws.{matched}
 
