@@ -26,14 +26,6 @@ pub struct Table {
     words_before: Vec<u64>,
 }
 
-/// The shape that a call names.
-struct Shape {
-    max_peers: usize,
-    header_bytes: usize,
-    tx_bytes: usize,
-    fragment_records: usize,
-}
-
 impl Table {
     /// Memory with such bytes in its rooms.
     pub fn new(headers: &[u8], arenas: &[u8]) -> Table {
@@ -104,9 +96,10 @@ impl Table {
         told
     }
 
-    fn shape(&self, lent: Lent) -> Shape {
+    /// The shape that a call names.
+    fn shape(&self, lent: Lent) -> exports::Shape {
         let above = |which, most: usize, right| if lent == Lent::Shape(which) { most + 1 } else { right };
-        Shape {
+        exports::Shape {
             max_peers: above(0, MAX_PEERS, self.start.max_peers),
             header_bytes: above(1, HEADER_BYTES, HEADER_BYTES),
             tx_bytes: above(2, TX_BYTES, TX_BYTES),
@@ -115,12 +108,7 @@ impl Table {
     }
 
     pub fn call(&mut self, call: &Call) -> Told {
-        let Shape { max_peers, header_bytes, tx_bytes, fragment_records } = self.shape(call.lent);
-        macro_rules! on_table {
-            ($export:ident $(, $argument:expr)*) => {
-                exports::$export(max_peers, header_bytes, tx_bytes, fragment_records $(, $argument)*)
-            };
-        }
+        let shape = self.shape(call.lent);
         let start = self.start;
         let front = |part| ..length(start, call, part);
         let numbers = &mut self.numbers[front(Part::Numbers)];
@@ -133,19 +121,19 @@ impl Table {
         let ids = &mut self.out_request_ids[front(Part::OutRequestIds)];
         let held = &mut self.out_chunks_held[front(Part::OutChunksHeld)];
         match call.what {
-            What::New => counted(on_table!(midici_pe_new, numbers, index, headers, arenas)),
+            What::New => counted(exports::midici_pe_new(shape, numbers, index, headers, arenas)),
             What::Feed { peer, raw_chunk: ref chunk, now_ms } => {
-                fed(on_table!(midici_pe_feed, numbers, index, headers, arenas, peer, chunk, now_ms, out_header, out_body))
+                fed(exports::midici_pe_feed(shape, numbers, index, headers, arenas, peer, chunk, now_ms, out_header, out_body))
             }
             What::FeedMessage { ref body, now_ms } => {
-                fed(on_table!(midici_pe_feed_message, numbers, index, headers, arenas, body, now_ms, out_header, out_body))
+                fed(exports::midici_pe_feed_message(shape, numbers, index, headers, arenas, body, now_ms, out_header, out_body))
             }
-            What::Cancel { peer, request_id } => counted(on_table!(midici_pe_cancel, numbers, peer, request_id)),
-            What::DropPeer { peer } => counted(on_table!(midici_pe_drop_peer, numbers, peer)),
-            What::Poll { now_ms } => counted(on_table!(midici_pe_poll, numbers, now_ms, peers, ids)),
-            What::MemoryStats => totalled(on_table!(midici_pe_memory_stats, numbers)),
-            What::ReservedBytes => counted(on_table!(midici_pe_reserved_bytes)),
-            What::OpenList => counted(on_table!(midici_pe_open_list, numbers, peers, ids, held)),
+            What::Cancel { peer, request_id } => counted(exports::midici_pe_cancel(shape, numbers, peer, request_id)),
+            What::DropPeer { peer } => counted(exports::midici_pe_drop_peer(shape, numbers, peer)),
+            What::Poll { now_ms } => counted(exports::midici_pe_poll(shape, numbers, now_ms, peers, ids)),
+            What::MemoryStats => totalled(exports::midici_pe_memory_stats(shape, numbers)),
+            What::ReservedBytes => counted(exports::midici_pe_reserved_bytes(shape)),
+            What::OpenList => counted(exports::midici_pe_open_list(shape, numbers, peers, ids, held)),
         }
     }
 
