@@ -1,5 +1,7 @@
 // feed and the whole-message entry.
 use crate::shape::Shape;
+use crate::table::CLOCK;
+use crate::table::MAX_CONCURRENT_PER_PEER;
 use crate::table::MUID;
 use crate::table::Place;
 use crate::table::bound_to;
@@ -49,7 +51,7 @@ fn room_at(size: usize, p: usize, s: usize) -> usize
     requires { ⌜ (p < 16) × (s < 4) × (size ≤ 65536) ⌝ }
     ensures { λ r. ⌜ r ≡ roomAt size p s ⌝ }
 {
-    (4 * p + s) * size
+    (MAX_CONCURRENT_PER_PEER * p + s) * size
 }
 
 // Question 30 of a feed: the table's memory, and outputs of at least H and B bytes.
@@ -122,7 +124,7 @@ fn note(numbers: &mut [u64], answer: Fed, tick: u64, peer: u32, p: usize)
     if is_damaged(answer) {
         return;
     }
-    numbers[0] = tick;
+    numbers[CLOCK] = tick;
     bind_to(numbers, peer, p);
 }
 
@@ -198,7 +200,7 @@ fn at_table(
     let Place::At(s) = slot_for(numbers, p, f.request_id) else {
         return Fed::Refused(PeError::TooManyConcurrent);
     };
-    let tick = next_tick(numbers[0]);
+    let tick = next_tick(numbers[CLOCK]);
     let moment = Moment { now_ms, tick };
     let answer = reach_slot(
         shape,
