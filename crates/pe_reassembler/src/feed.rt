@@ -81,26 +81,12 @@ fn has_all(
 fn is_damaged(answer: Fed) -> bool
     ensures { λ r. ⌜ r ≡ isDamaged (fedTold answer) ⌝ }
 {
-    let e = match answer {
-        Fed::Refused(e) => e,
-        Fed::Waiting => return false,
-        Fed::Whole(_, _) => return false,
-    };
-    match e {
-        PeError::DamagedSlot => true,
-        PeError::BadField => false,
-        PeError::Truncated => false,
-        PeError::BufferTooSmall => false,
-        PeError::HeaderTooLarge => false,
-        PeError::Oversize => false,
-        PeError::TooManyConcurrent => false,
-        PeError::PeerTableFull => false,
-        PeError::InconsistentChunking => false,
-        PeError::BadMcoded7 => false,
-        PeError::Ci(_) => false,
-        PeError::ChunkOutOfRange => false,
-        PeError::BadShape => false,
+    if let Fed::Refused(e) = answer {
+        if let PeError::DamagedSlot = e {
+            return true;
+        }
     }
+    false
 }
 
 // Binds a record to a peer; one that is the peer's own stays as it is.
@@ -231,6 +217,17 @@ fn refusal_of(read: ChunkRead) -> PeError
     }
 }
 
+// The same of a message; no reader answers the number in the other arm.
+fn ci_refusal_of(read: MessageRead) -> CiError
+    requires { ⌜ isRefused (messageTold read) ≡ true ⌝ }
+    ensures { λ r. ⌜ ciRefused r ≡ messageTold read ⌝ }
+{
+    match read {
+        MessageRead::Refused(e) => e,
+        MessageRead::Value(_) => CiError::BufferTooSmall,
+    }
+}
+
 // Feeds a chunk of a peer; a whole list goes into the two outputs.
 pub fn feed(
     shape: Shape,
@@ -273,17 +270,6 @@ pub fn feed(
     )
 }
 
-// The same of a message; no reader answers the number in the other arm.
-fn ci_refusal_of(read: MessageRead) -> CiError
-    requires { ⌜ isRefused (messageTold read) ≡ true ⌝ }
-    ensures { λ r. ⌜ ciRefused r ≡ messageTold read ⌝ }
-{
-    match read {
-        MessageRead::Refused(e) => e,
-        MessageRead::Value(_) => CiError::BufferTooSmall,
-    }
-}
-
 // Feeds the chunk of a whole CI message under its source.
 pub fn feed_message(
     shape: Shape,
@@ -308,20 +294,14 @@ pub fn feed_message(
         return Fed::Refused(PeError::Ci(ci_refusal_of(read)));
     };
     let peer = m.header.source.0;
-    let raw_chunk = &body[CI_HEADER_LEN..];
-    let chunk = decode_fields(raw_chunk);
-    let ChunkRead::Value(f) = chunk else {
-        return Fed::Refused(refusal_of(chunk));
-    };
-    at_table(
+    feed(
         shape,
         numbers,
         index,
         headers,
         arenas,
         peer,
-        raw_chunk,
-        f,
+        &body[CI_HEADER_LEN..],
         now_ms,
         out_header,
         out_body,
