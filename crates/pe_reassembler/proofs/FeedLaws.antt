@@ -15,13 +15,15 @@ use lib.Seq.{set-append-left, take-set-lt, drop-set-lt, getD-take, length-take-l
 use Rattle.seven_bit.specs.Parts.{part, splice}
 use Rattle.seven_bit.specs.Reply.{Reply, granted, refused}
 use Rattle.seven_bit.proofs.PartLaws.{length-part}
-use Rattle.seven_bit.proofs.ReplyLaws.{both, first-granted, and-told}
+use Rattle.seven_bit.proofs.ReplyLaws.{both, asked-with, first-granted, and-told}
 use Rattle.midici_core.specs.declared.error.CiError.{CiError}
 use Rattle.midici_core.specs.Errors.{ciNumber}
 use Rattle.midici_core.specs.Header.{readHeader}
 use Rattle.midici_core.specs.declared.pe_msg.MessageRead.{MessageRead}
 use Rattle.midici_core.specs.Message.{Message, readMessage, messageTold}
+use Rattle.midici_core.specs.Kinds.{carriesChunk}
 use Rattle.midici_core.proofs.HeaderLaws.{read-long}
+use Rattle.midici_core.proofs.RoundTrip.{within-both, header-unchanged}
 use Rattle.pe_frame.specs.declared.frame.ChunkRead.{ChunkRead}
 use Rattle.pe_frame.specs.Chunk.{Chunk, Fields, readFields, chunkTold}
 use Rattle.pe_frame.proofs.RoundTrip.{read-told}
@@ -32,7 +34,7 @@ use Rattle.pe_slot.specs.Feed.{Told, toldAnswer, SlotLeft, slotLeft, placed, is
 use Rattle.pe_slot.specs.Layout.{slotWords}
 use Rattle.pe_reassembler.specs.declared.shape.Shape.{Shape}
 use Rattle.pe_reassembler.specs.Table.{hasNumbers, hasRooms, isBound, boundTo, peerAt, slotAt, roomAt, roomsLen, recordFor, peerWords, HasPeer}
-use Rattle.pe_reassembler.specs.Feed.{Memory, memory, FeedLeft, feedLeft, nextTick, bind, hasAll, lifted, slotReached, reach, wordsPart, roomPart}
+use Rattle.pe_reassembler.specs.Feed.{Memory, memory, FeedLeft, feedLeft, nextTick, bind, hasAll, lifted, slotReached, reach, wordsPart, roomPart, feedCall, messageCall}
 use Rattle.pe_reassembler.specs.Steps.{isDamaged, noted, inPlace, slotFed}
 use Rattle.pe_reassembler.proofs.TableClose.{part-lent, part-back}
 use Rattle.pe_reassembler.proofs.TableLaws.{Ranges, in-range, numbers-long, record-for-below}
@@ -356,3 +358,19 @@ read-bounds data′ f q =
 pub message-long : (body : List ℕ) (h : Message) → readMessage body ≡ granted h → 13 ≤ length body
 unfolding readMessage
 message-long body h q = let a = first-granted (readHeader body) _ h q in read-long body (a .0) (a .1)
+
+-- and a source of 28 bits
+pub message-source : (body : List ℕ) (h : Message) → readMessage body ≡ granted h → h .header .source ≤ 0x0FFFFFFF
+unfolding readMessage
+message-source body h q =
+    let a = first-granted (readHeader body) _ h q in
+    let b = asked-with (carriesChunk (a .0 .kind)) 24 (a .0 .kind) _ h (a .2) in
+    let e : a .0 .source ≡ h .header .source = cc in
+    let w = within-both (a .0) (header-unchanged body (a .0) (a .1) .0) .0 in
+    omega arith
+
+-- so it is a feed of what stands behind them, under its source
+pub message-fed : (shape : Shape) (m : Memory) (body : List ℕ) (now-ms : ℕ) (h : Message) → hasAll shape m ≡ true → readMessage body ≡ granted h
+    → feedCall shape m (h .header .source) (drop 13 body) now-ms ≡ messageCall shape m body now-ms
+unfolding feedCall messageCall
+message-fed shape m body now-ms h a q = rw (a, le-leb (h .header .source) 0x0FFFFFFF (message-source body h q), q)

@@ -1,5 +1,7 @@
 // new, cancel, drop_peer, memory_stats and reserved_bytes.
 use crate::shape::Shape;
+use crate::table::CLOCK;
+use crate::table::MAX_CONCURRENT_PER_PEER;
 use crate::table::MUID;
 use crate::table::PEER_WORDS;
 use crate::table::Place;
@@ -73,7 +75,8 @@ fn fresh_peer(words: &mut [u64])
     ensures { λ _. ⌜ now (words .exit) ≡ freshPeers 1 ⌝ }
 {
     zero(words);
-    words[MUID] = Muid::BROADCAST_VALUE as u64;
+    let unbound = Muid::BROADCAST;
+    words[MUID] = unbound.0 as u64;
 }
 
 // Makes the records of all peers.
@@ -94,7 +97,7 @@ fn fresh_numbers(numbers: &mut [u64], max_peers: usize)
     requires { ⌜ («max_peers» ≤ 16) × (peerAt «max_peers» ≤ length (now numbers)) ⌝ }
     ensures { λ _. ⌜ now (numbers .exit) ≡ (1 ∷ freshPeers «max_peers») ++ drop (peerAt «max_peers») (now (numbers .entry)) ⌝ }
 {
-    numbers[0] = 1;
+    numbers[CLOCK] = 1;
     fresh_peers(numbers, max_peers);
 }
 
@@ -112,7 +115,7 @@ pub fn new(
     if !has_rooms(shape, numbers, index, headers, arenas) {
         return Made::Refused(PeError::BadShape);
     }
-    let records = 4 * shape.max_peers * shape.fragment_records;
+    let records = MAX_CONCURRENT_PER_PEER * shape.max_peers * shape.fragment_records;
     fresh_numbers(numbers, shape.max_peers);
     zero(&mut index[0..records]);
     Made::Done
@@ -285,7 +288,7 @@ fn reserved(shape: Shape) -> u64
     ensures { λ r. ⌜ r ≡ reservedOf shape ⌝ }
 {
     let each = shape.header_bytes + shape.tx_bytes + 8 * shape.fragment_records;
-    (4 * shape.max_peers * each) as u64
+    (MAX_CONCURRENT_PER_PEER * shape.max_peers * each) as u64
 }
 
 pub fn memory_stats(shape: Shape, numbers: &[u64]) -> Stats

@@ -1,5 +1,7 @@
 // feed and the whole-message entry.
 use crate::shape::Shape;
+use crate::table::CLOCK;
+use crate::table::MAX_CONCURRENT_PER_PEER;
 use crate::table::MUID;
 use crate::table::Place;
 use crate::table::bound_to;
@@ -49,7 +51,7 @@ fn room_at(size: usize, p: usize, s: usize) -> usize
     requires { ⌜ (p < 16) × (s < 4) × (size ≤ 65536) ⌝ }
     ensures { λ r. ⌜ r ≡ roomAt size p s ⌝ }
 {
-    (4 * p + s) * size
+    (MAX_CONCURRENT_PER_PEER * p + s) * size
 }
 
 // Question 30 of a feed: the table's memory, and outputs of at least H and B bytes.
@@ -79,26 +81,12 @@ fn has_all(
 fn is_damaged(answer: Fed) -> bool
     ensures { λ r. ⌜ r ≡ isDamaged (fedTold answer) ⌝ }
 {
-    let e = match answer {
-        Fed::Refused(e) => e,
-        Fed::Waiting => return false,
-        Fed::Whole(_, _) => return false,
-    };
-    match e {
-        PeError::DamagedSlot => true,
-        PeError::BadField => false,
-        PeError::Truncated => false,
-        PeError::BufferTooSmall => false,
-        PeError::HeaderTooLarge => false,
-        PeError::Oversize => false,
-        PeError::TooManyConcurrent => false,
-        PeError::PeerTableFull => false,
-        PeError::InconsistentChunking => false,
-        PeError::BadMcoded7 => false,
-        PeError::Ci(_) => false,
-        PeError::ChunkOutOfRange => false,
-        PeError::BadShape => false,
+    if let Fed::Refused(e) = answer {
+        if let PeError::DamagedSlot = e {
+            return true;
+        }
     }
+    false
 }
 
 // Binds a record to a peer; one that is the peer's own stays as it is.
@@ -122,7 +110,7 @@ fn note(numbers: &mut [u64], answer: Fed, tick: u64, peer: u32, p: usize)
     if is_damaged(answer) {
         return;
     }
-    numbers[0] = tick;
+    numbers[CLOCK] = tick;
     bind_to(numbers, peer, p);
 }
 
@@ -198,7 +186,7 @@ fn at_table(
     let Place::At(s) = slot_for(numbers, p, f.request_id) else {
         return Fed::Refused(PeError::TooManyConcurrent);
     };
-    let tick = next_tick(numbers[0]);
+    let tick = next_tick(numbers[CLOCK]);
     let moment = Moment { now_ms, tick };
     let answer = reach_slot(
         shape,
@@ -226,6 +214,17 @@ fn refusal_of(read: ChunkRead) -> PeError
     match read {
         ChunkRead::Refused(e) => e,
         ChunkRead::Value(_) => PeError::ChunkOutOfRange,
+    }
+}
+
+// The same of a message; no reader answers the number in the other arm.
+fn ci_refusal_of(read: MessageRead) -> CiError
+    requires { ⌜ isRefused (messageTold read) ≡ true ⌝ }
+    ensures { λ r. ⌜ ciRefused r ≡ messageTold read ⌝ }
+{
+    match read {
+        MessageRead::Refused(e) => e,
+        MessageRead::Value(_) => CiError::BufferTooSmall,
     }
 }
 
@@ -271,17 +270,6 @@ pub fn feed(
     )
 }
 
-// The same of a message; no reader answers the number in the other arm.
-fn ci_refusal_of(read: MessageRead) -> CiError
-    requires { ⌜ isRefused (messageTold read) ≡ true ⌝ }
-    ensures { λ r. ⌜ ciRefused r ≡ messageTold read ⌝ }
-{
-    match read {
-        MessageRead::Refused(e) => e,
-        MessageRead::Value(_) => CiError::BufferTooSmall,
-    }
-}
-
 // Feeds the chunk of a whole CI message under its source.
 pub fn feed_message(
     shape: Shape,
@@ -306,20 +294,14 @@ pub fn feed_message(
         return Fed::Refused(PeError::Ci(ci_refusal_of(read)));
     };
     let peer = m.header.source.0;
-    let raw_chunk = &body[CI_HEADER_LEN..];
-    let chunk = decode_fields(raw_chunk);
-    let ChunkRead::Value(f) = chunk else {
-        return Fed::Refused(refusal_of(chunk));
-    };
-    at_table(
+    feed(
         shape,
         numbers,
         index,
         headers,
         arenas,
         peer,
-        raw_chunk,
-        f,
+        &body[CI_HEADER_LEN..],
         now_ms,
         out_header,
         out_body,

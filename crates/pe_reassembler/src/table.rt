@@ -14,12 +14,22 @@ ghost use lib.ListN.{length};
 ghost use Rattle.pe_reassembler.specs.Calls.{closeAt};
 ghost use Rattle.pe_reassembler.specs.Table.{inRange, hasNumbers, hasRooms, HasPeer, HasSlot, peerAt, slotAt, isBound, boundTo, isIdle, hasId, first, orElse, recordOf, recordFor, slotOpen, slotFor, isActive, placeTold};
 
+// The most peers, and the slots that each has.
 pub(crate) const MAX_PEERS: usize = 16;
 
-// The words of a peer: bound, muid and four slots.
-pub(crate) const PEER_WORDS: usize = 2 + 4 * SLOT_WORDS;
+pub(crate) const MAX_CONCURRENT_PER_PEER: usize = 4;
 
-// Its muid's place among them.
+// The clock's place in numbers, and where the peers' records start.
+pub(crate) const CLOCK: usize = 0;
+
+const PEERS_AT: usize = 1;
+
+// A peer's record: bound and muid, then its slots.
+const PEER_OWN_WORDS: usize = 2;
+
+pub(crate) const PEER_WORDS: usize = PEER_OWN_WORDS + MAX_CONCURRENT_PER_PEER * SLOT_WORDS;
+
+// The muid's place in it.
 pub(crate) const MUID: usize = 1;
 
 // A record or a slot, or none.
@@ -49,7 +59,7 @@ pub(crate) fn has_numbers(shape: Shape, numbers: &[u64]) -> bool
     if !in_range(shape) {
         return false;
     }
-    1 + PEER_WORDS * shape.max_peers <= numbers.len()
+    PEERS_AT + PEER_WORDS * shape.max_peers <= numbers.len()
 }
 
 // Have four rooms of a size for each peer space in memory of a length?
@@ -57,7 +67,7 @@ fn rooms_fit(max_peers: usize, size: usize, len: usize) -> bool
     requires { ⌜ («max_peers» ≤ 16) × (size ≤ 65536) ⌝ }
     ensures { λ r. ⌜ r ≡ leb (4 * «max_peers» * size) len ⌝ }
 {
-    4 * max_peers * size <= len
+    MAX_CONCURRENT_PER_PEER * max_peers * size <= len
 }
 
 pub(crate) fn has_rooms(
@@ -86,7 +96,7 @@ pub(crate) fn peer_at(p: usize) -> usize
     requires { ⌜ p < 16 ⌝ }
     ensures { λ r. ⌜ r ≡ peerAt p ⌝ }
 {
-    1 + PEER_WORDS * p
+    PEERS_AT + PEER_WORDS * p
 }
 
 // Where the words of a slot start.
@@ -94,7 +104,7 @@ pub(crate) fn slot_at(p: usize, s: usize) -> usize
     requires { ⌜ (p < 16) × (s < 4) ⌝ }
     ensures { λ r. ⌜ r ≡ slotAt p s ⌝ }
 {
-    3 + PEER_WORDS * p + SLOT_WORDS * s
+    peer_at(p) + PEER_OWN_WORDS + SLOT_WORDS * s
 }
 
 fn is_bound(numbers: &[u64], p: usize) -> bool
@@ -226,7 +236,7 @@ pub(crate) fn slot_open(numbers: &[u64], p: usize, request_id: u8) -> Place
     ensures { λ r. ⌜ placeTold r ≡ slotOpen (now (numbers .entry)) p «request_id» ⌝ }
 {
     let mut s = 0;
-    while s < 4 {
+    while s < MAX_CONCURRENT_PER_PEER {
         if has_id(numbers, request_id, p, s) {
             return Place::At(s);
         }
@@ -240,7 +250,7 @@ fn slot_free(numbers: &[u64], p: usize) -> Place
     ensures { λ r. ⌜ placeTold r ≡ first (λ s. not (isActive (now (numbers .entry)) p s)) 4 ⌝ }
 {
     let mut s = 0;
-    while s < 4 {
+    while s < MAX_CONCURRENT_PER_PEER {
         if !is_active(numbers, p, s) {
             return Place::At(s);
         }

@@ -17,7 +17,9 @@ same-length : tie.Need-same-length
 same-length c = search needs
 
 returns : tie.Need-returns
-returns c = fresh-one (now (c .before .before .before .before .before .args .words)) (c .before .before .before .before .before .pre) (c .before .before .zero .ensures)
+returns c =
+    let s = c .before .before .before .before .before .before in
+    fresh-one (now (s .args .words)) (s .pre) (c .before .before .before .zero .ensures)
 
 pub fresh-peer-spec : {M : Type 1} → statement M
 fresh-peer-spec =

@@ -4,12 +4,10 @@ use denote.Ref.{now}
 use Rattle.seven_bit.proofs.PartLaws.{rest}
 use Rattle.midici_core.specs.declared.pe_msg.MessageRead.{MessageRead}
 use Rattle.midici_core.specs.Message.{messageTold}
-use Rattle.pe_frame.specs.declared.frame.ChunkRead.{ChunkRead}
-use Rattle.pe_frame.specs.Chunk.{chunkTold}
 use Rattle.pe_reassembler.specs.Feed.{messageCall}
 use Rattle.pe_reassembler.specs.Steps.{isRefused}
 use Rattle.pe_reassembler.proofs.TableLaws.{yes, no}
-use Rattle.pe_reassembler.proofs.FeedLaws.{chunk-as, message-as, message-long}
+use Rattle.pe_reassembler.proofs.FeedLaws.{message-as, message-long, message-fed}
 use borrow.Author.Needs.{needs}
 use Rattle.pe_reassembler.proofs.feed.feed_message.Statement.{statement}
 use Rattle.pe_reassembler.proofs.feed.feed_message.Tie as tie
@@ -73,26 +71,17 @@ returns-2 : tie.Need-returns-2
 unfolding messageCall
 returns-2 c = rw (yes (c .before .before .before .before .before .has-all .ensures) (c .before .before .before .before .if1 .left), sym (c .ci-refusal-of .ensures ∙ c .before .before .before .decode .ensures))
 
-sub-raw-chunk : tie.Need-sub-raw-chunk
-sub-raw-chunk c = let l = message-long _ _ (message-as (c .before .before .before .decode .ensures) (c .before .read .given .1)) in omega (arith, l)
+sub-feed : tie.Need-sub-feed
+sub-feed c = let l = message-long _ _ (message-as (c .before .before .before .before .before .before .before .decode .ensures) (c .before .before .before .before .before .read .given .1)) in omega (arith, l)
 
-part-raw-chunk-start : tie.Need-part-raw-chunk-start
-part-raw-chunk-start c = let l = message-long _ _ (message-as (c .before .before .before .decode .ensures) (c .before .read .given .1)) in omega (arith, l)
+part-feed-start : tie.Need-part-feed-start
+part-feed-start c = let l = message-long _ _ (message-as (c .before .before .before .before .before .before .before .decode .ensures) (c .before .before .before .before .before .read .given .1)) in omega (arith, l)
 
-part-raw-chunk-end : tie.Need-part-raw-chunk-end
-part-raw-chunk-end c = search needs
+part-feed-end : tie.Need-part-feed-end
+part-feed-end c = search needs
 
-decode-fields-requires : tie.Need-decode-fields-requires
-decode-fields-requires c κs = search needs
-
-enum-known-chunk : tie.Need-enum-known-chunk
-enum-known-chunk c = search needs
-
-enum-told-2 : tie.Need-enum-told-2
-enum-told-2 c = search needs
-
-refusal-of-requires : tie.Need-refusal-of-requires
-refusal-of-requires c κs = ap (λ (x : ChunkRead). isRefused (chunkTold x)) (c .enum-told2 .given .1)
+feed-requires : tie.Need-feed-requires
+feed-requires c κs = search needs
 
 same-length-13 : tie.Need-same-length-13
 same-length-13 c = search needs
@@ -113,38 +102,13 @@ same-length-18 : tie.Need-same-length-18
 same-length-18 c = search needs
 
 returns-3 : tie.Need-returns-3
-unfolding messageCall
 returns-3 c =
-    rw (yes (c .before .before .before .before .before .before .before .before .before .before .has-all .ensures) (c .before .before .before .before .before .before .before .before .before .if1 .left), message-as (c .before .before .before .before .before .before .before .before .decode .ensures) (c .before .before .before .before .before .before .read .given .1))
-    (rw (sym (rw (rest 13 (now (c .before .before .before .before .before .before .before .before .before .before .before .before .before .before .before .before .before .before .before .before .before .before .before .before .args .body))) at (c .refusal-of .ensures ∙ c .before .before .before .decode-fields .ensures))))
-
-at-table-requires : tie.Need-at-table-requires
-at-table-requires c κs = (yes (c .before .before .before .before .before .before .before .before .before .before .before .before .before .before .before .before .has-all .ensures) (c .before .before .before .before .before .before .before .before .before .before .before .before .before .before .before .if1 .left), chunk-as (c .before .before .before .before .before .before .before .before .before .decode-fields .ensures) (c .before .before .before .before .before .before .before .chunk .given .1))
-
-same-length-19 : tie.Need-same-length-19
-same-length-19 c = search needs
-
-same-length-20 : tie.Need-same-length-20
-same-length-20 c = search needs
-
-same-length-21 : tie.Need-same-length-21
-same-length-21 c = search needs
-
-same-length-22 : tie.Need-same-length-22
-same-length-22 c = search needs
-
-same-length-23 : tie.Need-same-length-23
-same-length-23 c = search needs
-
-same-length-24 : tie.Need-same-length-24
-same-length-24 c = search needs
-
-returns-4 : tie.Need-returns-4
-unfolding messageCall
-returns-4 c =
-    rw (yes (c .before .before .before .before .before .before .before .before .before .before .before .before .before .before .before .before .before .before .before .before .before .before .before .before .before .before .before .before .before .has-all .ensures) (c .before .before .before .before .before .before .before .before .before .before .before .before .before .before .before .before .before .before .before .before .before .before .before .before .before .before .before .before .if1 .left), message-as (c .before .before .before .before .before .before .before .before .before .before .before .before .before .before .before .before .before .before .before .before .before .before .before .before .before .before .before .decode .ensures) (c .before .before .before .before .before .before .before .before .before .before .before .before .before .before .before .before .before .before .before .before .before .before .before .before .before .read .given .1))
-    (rw (rw (rest 13 (now (c .before .before .before .before .before .before .before .before .before .before .before .before .before .before .before .before .before .before .before .before .before .before .before .before .before .before .before .before .before .before .before .before .before .before .before .before .before .before .before .before .before .before .before .args .body))) at (chunk-as (c .before .before .before .before .before .before .before .before .before .before .before .before .before .before .before .before .before .before .before .before .before .before .decode-fields .ensures) (c .before .before .before .before .before .before .before .before .before .before .before .before .before .before .before .before .before .before .before .before .chunk .given .1)))
-    (rw (rest 13 (now (c .before .before .before .before .before .before .before .before .before .before .before .before .before .before .before .before .before .before .before .before .before .before .before .before .before .before .before .before .before .before .before .before .before .before .before .before .before .before .before .before .before .before .before .args .body))) at (c .before .before .before .before .before .before .before .before .before .before .before .before .at-table .ensures)))
+    let m = c .before .before .before .before .before .before .before .before .before .before .before .before .before .before .before .before .before .before .before .before .before in
+    let d = m .before .before in
+    let e = d .before in
+    let s = e .before .before .before .before .before .before .before .before .before .before .before .before .before .before .before in
+    (rw (rest 13 (now (s .args .body))) at (c .before .before .before .before .before .before .before .before .before .before .before .before .feed .ensures))
+    ∙ message-fed (s .args .shape) _ (now (s .args .body)) (s .args .now-ms) _ (yes (e .before .has-all .ensures) (e .if1 .left)) (message-as (d .decode .ensures) (m .read .given .1))
 
 pub feed-message-spec : {M : Type 1} → statement M
 feed-message-spec =
@@ -169,25 +133,14 @@ feed-message-spec =
     same-length-11
     same-length-12
     returns-2
-    sub-raw-chunk
-    part-raw-chunk-start
-    part-raw-chunk-end
-    decode-fields-requires
-    enum-known-chunk
-    enum-told-2
-    refusal-of-requires
+    sub-feed
+    part-feed-start
+    part-feed-end
+    feed-requires
     same-length-13
     same-length-14
     same-length-15
     same-length-16
     same-length-17
     same-length-18
-    returns-3
-    at-table-requires
-    same-length-19
-    same-length-20
-    same-length-21
-    same-length-22
-    same-length-23
-    same-length-24
-    returns-4)
+    returns-3)

@@ -1,12 +1,44 @@
-use mathlib.Core.Path.{sym, ap, _∙_}
+use Prim.Native.Nat.{ℕ}
+use mathlib.Core.Bool.{false}
+use mathlib.Core.List.{List, [], _∷_}
+use mathlib.Core.Path.{_≡_, refl, sym, ap, _∙_}
+use types.Run.{OneOf, miss}
+use denote.Enum.Declared.{tagOf}
+use Rattle.pe_slot.proofs.slot.Fed as fed
 use Rattle.pe_slot.specs.declared.slot.Fed.{Fed}
 use Rattle.pe_slot.specs.Feed.{fedTold}
+use Rattle.pe_wire.proofs.error.PeError as error
 use Rattle.pe_wire.specs.declared.error.PeError.{PeError}
 use Rattle.pe_reassembler.specs.Steps.{isDamaged}
 use Rattle.pe_reassembler.proofs.FeedLaws.{ci-clear}
 use borrow.Author.Needs.{needs}
 use Rattle.pe_reassembler.proofs.feed.is_damaged.Statement.{statement}
 use Rattle.pe_reassembler.proofs.feed.is_damaged.Tie as tie
+
+-- no other error says so
+abbrev others : List ℕ
+others = 0 ∷ 1 ∷ 2 ∷ 3 ∷ 4 ∷ 5 ∷ 6 ∷ 7 ∷ 8 ∷ 9 ∷ 10 ∷ 11 ∷ []
+
+another : (e : PeError) → OneOf others (tagOf error.the-type e) → isDamaged (fedTold (Fed.Refused e)) ≡ false
+another PeError.BadField h = refl
+another PeError.Truncated h = refl
+another PeError.BufferTooSmall h = refl
+another PeError.HeaderTooLarge h = refl
+another PeError.Oversize h = refl
+another PeError.TooManyConcurrent h = refl
+another PeError.PeerTableFull h = refl
+another PeError.InconsistentChunking h = refl
+another PeError.BadMcoded7 h = refl
+another (PeError.Ci e) h = ci-clear e
+another PeError.ChunkOutOfRange h = refl
+another PeError.BadShape h = refl
+another PeError.DamagedSlot h = absurd (miss others 12 tt h)
+
+-- and no answer but a refusal
+none : (a : Fed) → OneOf (0 ∷ 1 ∷ []) (tagOf fed.the-type a) → isDamaged (fedTold a) ≡ false
+none Fed.Waiting h = refl
+none (Fed.Whole header-len body-len) h = refl
+none (Fed.Refused e) h = absurd (miss (0 ∷ 1 ∷ []) 2 tt h)
 
 enum-known-answer : tie.Need-enum-known-answer
 enum-known-answer c = search needs
@@ -17,123 +49,12 @@ enum-told c = search needs
 returns : tie.Need-returns
 returns c = search needs
 
-enum-told-2 : tie.Need-enum-told-2
-enum-told-2 c = search needs
-
 returns-2 : tie.Need-returns-2
-returns-2 c = search needs
-
-enum-told-3 : tie.Need-enum-told-3
-enum-told-3 c = search needs
-
-enum-told-4 : tie.Need-enum-told-4
-enum-told-4 c = search needs
-
-enum-told-5 : tie.Need-enum-told-5
-enum-told-5 c = search needs
-
-enum-told-6 : tie.Need-enum-told-6
-enum-told-6 c = search needs
-
-enum-told-7 : tie.Need-enum-told-7
-enum-told-7 c = search needs
-
-enum-told-8 : tie.Need-enum-told-8
-enum-told-8 c = search needs
-
-enum-told-9 : tie.Need-enum-told-9
-enum-told-9 c = search needs
-
-enum-told-10 : tie.Need-enum-told-10
-enum-told-10 c = search needs
-
-enum-told-11 : tie.Need-enum-told-11
-enum-told-11 c = search needs
-
-enum-told-12 : tie.Need-enum-told-12
-enum-told-12 c = search needs
-
-enum-told-13 : tie.Need-enum-told-13
-enum-told-13 c = search needs
-
-enum-told-14 : tie.Need-enum-told-14
-enum-told-14 c = search needs
-
-enum-told-15 : tie.Need-enum-told-15
-enum-told-15 c = search needs
+returns-2 c =
+    sym (ap (λ (x : Fed). isDamaged (fedTold x)) (c .before .before .answer .given .1) ∙ another (c .before .before .answer .given .0 .0) (c .match2 .keys2))
 
 returns-3 : tie.Need-returns-3
-returns-3 c = search needs
-
-returns-4 : tie.Need-returns-4
-returns-4 c = search needs
-
-returns-5 : tie.Need-returns-5
-returns-5 c = search needs
-
-returns-6 : tie.Need-returns-6
-returns-6 c = search needs
-
-returns-7 : tie.Need-returns-7
-returns-7 c = search needs
-
-returns-8 : tie.Need-returns-8
-returns-8 c = search needs
-
-returns-9 : tie.Need-returns-9
-returns-9 c = search needs
-
-returns-10 : tie.Need-returns-10
-returns-10 c = search needs
-
-returns-11 : tie.Need-returns-11
-returns-11 c = search needs
-
-returns-12 : tie.Need-returns-12
-returns-12 c = search needs
-
-returns-13 : tie.Need-returns-13
-returns-13 c =
-    sym (ap (λ (x : Fed). isDamaged (fedTold x)) (c .before .before .before .answer .given .1) ∙ ap (λ (x : PeError). isDamaged (fedTold (Fed.Refused x))) (c .enum-told13 .given .1) ∙ ci-clear (c .enum-told13 .given .0 .0))
-
-returns-14 : tie.Need-returns-14
-returns-14 c = search needs
-
-returns-15 : tie.Need-returns-15
-returns-15 c = search needs
+returns-3 c = sym (none (c .before .args .answer) (c .match .keys2))
 
 pub is-damaged-spec : {M : Type 1} → statement M
-is-damaged-spec =
-    tie.close
-    (tie.spec
-    enum-known-answer
-    enum-told
-    returns
-    enum-told-2
-    returns-2
-    enum-told-3
-    enum-told-4
-    enum-told-5
-    enum-told-6
-    enum-told-7
-    enum-told-8
-    enum-told-9
-    enum-told-10
-    enum-told-11
-    enum-told-12
-    enum-told-13
-    enum-told-14
-    enum-told-15
-    returns-3
-    returns-4
-    returns-5
-    returns-6
-    returns-7
-    returns-8
-    returns-9
-    returns-10
-    returns-11
-    returns-12
-    returns-13
-    returns-14
-    returns-15)
+is-damaged-spec = tie.close (tie.spec enum-known-answer enum-told returns returns-2 returns-3)
