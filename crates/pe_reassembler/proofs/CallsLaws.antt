@@ -7,15 +7,15 @@ use mathlib.Core.Path.{_≡_, refl, sym, ap, _∙_}
 use lib.ListN.{set}
 use Rattle.seven_bit.specs.Reply.{Reply, granted, _else_then_}
 use Rattle.seven_bit.proofs.ReplyLaws.{same-grant, asked}
-use Rattle.pe_reassembler.specs.declared.calls.Found.{Found}
+use Rattle.pe_reassembler.specs.declared.calls.PeerFound.{PeerFound}
 use Rattle.pe_reassembler.specs.declared.shape.Shape.{Shape}
-use Rattle.pe_reassembler.specs.Calls.{findPeer, foundTold, numbered, closeOpen, openCount, dropAt}
+use Rattle.pe_reassembler.specs.Calls.{findPeer, peerFoundTold, numbered, closeOpen, openCount, dropAt}
 use Rattle.pe_reassembler.specs.Table.{HasPeer, hasNumbers, isMuid, peerAt, recordOf}
 use Rattle.pe_reassembler.proofs.TableLaws.{record-in}
 
 -- what was found, taken apart
-pub found-as : {r q : Found} {o : Reply (Option ℕ)} → foundTold r ≡ o → r ≡ q → o ≡ foundTold q
-found-as e f = sym e ∙ ap foundTold f
+pub found-as : {r q : PeerFound} {o : Reply (Option ℕ)} → peerFoundTold r ≡ o → r ≡ q → o ≡ peerFoundTold q
+found-as e f = sym e ∙ ap peerFoundTold f
 
 -- a record that was found lies in the numbers
 pub found-in : (shape : Shape) (numbers : List ℕ) (peer p : ℕ) → findPeer shape numbers peer ≡ granted (some p) → HasPeer numbers p

@@ -13,7 +13,7 @@ use Rattle.pe_slot.specs.Layout.{slotWords, headerLenAt, indexLenAt, propertyBy
 use Rattle.pe_slot.specs.Feed.{cleared}
 use Rattle.pe_reassembler.specs.declared.shape.Shape.{Shape}
 use Rattle.pe_reassembler.specs.declared.calls.Made.{Made}
-use Rattle.pe_reassembler.specs.declared.calls.Found.{Found}
+use Rattle.pe_reassembler.specs.declared.calls.PeerFound.{PeerFound}
 use Rattle.pe_reassembler.specs.declared.calls.Cancelled.{Cancelled}
 use Rattle.pe_reassembler.specs.declared.calls.Count.{Count}
 use Rattle.pe_reassembler.specs.declared.calls.Stats.{Stats}
@@ -69,10 +69,10 @@ abbrev pub onRecord : {A : Type 0} → Reply (Option ℕ) → (Option ℕ → Nu
 onRecord (granted found) next numbers = next found
 onRecord (refused number value) next numbers = numbered (refused number value) numbers
 
-abbrev pub foundTold : Found → Reply (Option ℕ)
-foundTold (Found.At p) = granted (some p)
-foundTold Found.Nothing = granted none
-foundTold (Found.Refused e) = peRefused e
+abbrev pub peerFoundTold : PeerFound → Reply (Option ℕ)
+peerFoundTold (PeerFound.At p) = granted (some p)
+peerFoundTold PeerFound.Nothing = granted none
+peerFoundTold (PeerFound.Refused e) = peRefused e
 
 -- "Cancel closes the transfer it names"; "without a match answer no"
 abbrev pub cancelIn : Option ℕ → ℕ → List ℕ → Numbered Bool

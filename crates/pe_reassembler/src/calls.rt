@@ -28,7 +28,9 @@ ghost use Prim.Native.Nat.{_+_, _*_, _≤_, _<_, min};
 ghost use lib.ListN.{length, drop, replicate};
 ghost use Rattle.seven_bit.specs.Parts.{put};
 ghost use Rattle.seven_bit.specs.Reply.{granted};
-ghost use Rattle.pe_reassembler.specs.Calls.{newCall, fresh, madeTold, freshPeers, findPeer, foundTold, cancelCall, numbered, cancelledTold, closeOpen, openCount, dropAt, dropCall, countTold, slotBytes, overSlots, reservedOf, statsCall, statsTold, reservedCall};
+ghost use Rattle.pe_reassembler.specs.Calls.{newCall, fresh, madeTold, freshPeers, findPeer, peerFoundTold, cancelCall, numbered};
+ghost use Rattle.pe_reassembler.specs.Calls.{cancelledTold, closeOpen, openCount, dropAt, dropCall, countTold, slotBytes, overSlots};
+ghost use Rattle.pe_reassembler.specs.Calls.{reservedOf, statsCall, statsTold, reservedCall};
 ghost use Rattle.pe_reassembler.specs.Table.{inRange, hasNumbers, HasPeer, HasSlot, peerWords, peerAt};
 
 pub enum Made {
@@ -122,26 +124,26 @@ pub fn new(
 }
 
 // What a call on a peer finds first: its record, none, or that the call is refused.
-pub(crate) enum Found {
+pub(crate) enum PeerFound {
     At(usize),
     Nothing,
     Refused(PeError),
 }
 
 // Asks 30 and 28, and finds the record that is bound to a peer.
-fn find_peer(shape: Shape, numbers: &[u64], peer: u32) -> Found
-    ensures { λ r. ⌜ foundTold r ≡ findPeer shape (now (numbers .entry)) peer ⌝ }
+fn find_peer(shape: Shape, numbers: &[u64], peer: u32) -> PeerFound
+    ensures { λ r. ⌜ peerFoundTold r ≡ findPeer shape (now (numbers .entry)) peer ⌝ }
 {
     if !has_numbers(shape, numbers) {
-        return Found::Refused(PeError::BadShape);
+        return PeerFound::Refused(PeError::BadShape);
     }
     if peer > Muid::MASK_28 {
-        return Found::Refused(PeError::Ci(CiError::InvalidMuid));
+        return PeerFound::Refused(PeError::Ci(CiError::InvalidMuid));
     }
     let Place::At(p) = record_of(shape, numbers, peer) else {
-        return Found::Nothing;
+        return PeerFound::Nothing;
     };
-    Found::At(p)
+    PeerFound::At(p)
 }
 
 // Closes the slot of a peer that is open with a request id.
@@ -149,9 +151,9 @@ pub fn cancel(shape: Shape, numbers: &mut [u64], peer: u32, request_id: u8) -> C
     ensures { λ r. ⌜ numbered (cancelledTold r) (now (numbers .exit)) ≡ cancelCall shape (now (numbers .entry)) peer «request_id» ⌝ }
 {
     let p = match find_peer(shape, numbers, peer) {
-        Found::At(p) => p,
-        Found::Nothing => return Cancelled::Answer(false),
-        Found::Refused(e) => return Cancelled::Refused(e),
+        PeerFound::At(p) => p,
+        PeerFound::Nothing => return Cancelled::Answer(false),
+        PeerFound::Refused(e) => return Cancelled::Refused(e),
     };
     let Place::At(s) = slot_open(numbers, p, request_id) else {
         return Cancelled::Answer(false);
@@ -203,9 +205,9 @@ pub fn drop_peer(shape: Shape, numbers: &mut [u64], peer: u32) -> Count
     ensures { λ r. ⌜ numbered (countTold r) (now (numbers .exit)) ≡ dropCall shape (now (numbers .entry)) peer ⌝ }
 {
     let p = match find_peer(shape, numbers, peer) {
-        Found::At(p) => p,
-        Found::Nothing => return Count::Number(0),
-        Found::Refused(e) => return Count::Refused(e),
+        PeerFound::At(p) => p,
+        PeerFound::Nothing => return Count::Number(0),
+        PeerFound::Refused(e) => return Count::Refused(e),
     };
     Count::Number(drop_record(numbers, p))
 }

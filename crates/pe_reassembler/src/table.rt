@@ -12,7 +12,8 @@ ghost use Prim.Native.Nat.{_+_, _*_, _≤_, _<_};
 ghost use lib.Dec.{leb};
 ghost use lib.ListN.{length};
 ghost use Rattle.pe_reassembler.specs.Calls.{closeAt};
-ghost use Rattle.pe_reassembler.specs.Table.{inRange, hasNumbers, hasRooms, HasPeer, HasSlot, peerAt, slotAt, isBound, boundTo, isIdle, hasId, first, orElse, recordOf, recordFor, slotOpen, slotFor, isActive, placeTold};
+ghost use Rattle.pe_reassembler.specs.Table.{inRange, hasNumbers, hasRooms, HasPeer, HasSlot, peerAt, slotAt, isBound, boundTo, isIdle, hasId};
+ghost use Rattle.pe_reassembler.specs.Table.{first, orElse, recordOf, recordFor, slotOpen, slotFor, isActive, placeTold};
 
 // The most peers, and the slots that each has.
 pub(crate) const MAX_PEERS: usize = 16;

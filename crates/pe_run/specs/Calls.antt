@@ -17,7 +17,8 @@ use Rattle.pe_reassembler.specs.Table.{isMuid}
 use Rattle.pe_reassembler.specs.Calls.{Totals, reservedOf}
 use Rattle.pe_reassembler.specs.Open.{Perm, Shown}
 use Rattle.pe_run.specs.Lists.{keep}
-use Rattle.pe_run.specs.Model.{Entry, Model, isLate, find, isNone, openOf, arrives, Act, arrive, cancel as cancelled, drop as dropped, poll as polled, nothing, acted}
+use Rattle.pe_run.specs.Model.{Entry, Model, isLate, find, isNone, openOf, arrives, Act, arrive, cancel as cancelled, drop as dropped}
+use Rattle.pe_run.specs.Model.{poll as polled, nothing, acted}
 
 -- "any sequence of the eight .. with any arguments": the arguments are those of the calls, the lent outputs among them.
 pub data Call : Type 0 where

@@ -11,7 +11,8 @@ use Rattle.pe_reassembler.specs.Feed.{Memory, memory, FeedLeft, feedCall, messa
 use Rattle.pe_reassembler.specs.Calls.{newCall, cancelCall, dropCall, statsCall, reservedCall}
 use Rattle.pe_reassembler.specs.Poll.{pollCall}
 use Rattle.pe_reassembler.specs.Open.{Listed, OpenList}
-use Rattle.pe_run.specs.Calls.{Call, feed, feed-message, cancel, drop-peer, poll, memory-stats, reserved-bytes, open-list, Answer, fed, was-open, counted, timed-out, totals, listed}
+use Rattle.pe_run.specs.Calls.{Call, feed, feed-message, cancel, drop-peer, poll, memory-stats, reserved-bytes, open-list, Answer, fed}
+use Rattle.pe_run.specs.Calls.{was-open, counted, timed-out, totals, listed}
 
 -- The table's lent memory, without the outputs of a call.
 pub record Table : Type 0 where
