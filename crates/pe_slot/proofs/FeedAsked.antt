@@ -20,7 +20,7 @@ use Rattle.pe_slot.specs.Memory.{slotOf, wordsOf, contents, endsAt, isEn
 use Rattle.pe_slot.specs.Records.{Scanned, holds}
 use Rattle.pe_slot.specs.Feed.{SlotLeft, slotLeft, touched, placed, isShaped, feedSlot}
 use Rattle.pe_slot.specs.Steps.{isBounded, askSound, Ready}
-use Rattle.pe_slot.proofs.FeedTheorems.{sound-told as holding}
+use Rattle.pe_slot.proofs.FeedTheorems.{sound-told}
 
 -- the lengths of a slot's parts are in range
 pub record Shaped (words index header arena out-header out-body : List ℕ) : Type 0 where
@@ -104,18 +104,18 @@ module _ (words index header arena : List ℕ) (number : ℕ) where
   unfolding askSound
   sound-held y h = rw (y, h)
 
-  pub damaged-told : none ≡ askSound words index header arena number → isSound (length header) (length arena) (length index) (slotOf words) index ≡ false
+  pub damaged-asked : none ≡ askSound words index header arena number → isSound (length header) (length arena) (length index) (slotOf words) index ≡ false
   unfolding askSound
-  damaged-told e = go (isSound (length header) (length arena) (length index) (slotOf words) index) e
+  damaged-asked e = go (isSound (length header) (length arena) (length index) (slotOf words) index) e
     where
       go : (b : Bool) → none ≡ cond b (some (holds number (take (slotOf words .«index_len») index))) none → b ≡ false
       go true e = absurd (let z : _≡_ {A = ℕ} 0 1 = cc in omega arith)
       go false e = refl
 
-  pub sound-told : {held : Bool} → some held ≡ askSound words index header arena number
+  pub sound-asked : {held : Bool} → some held ≡ askSound words index header arena number
       → (isSound (length header) (length arena) (length index) (slotOf words) index ≡ true) × (held ≡ holds number (take (slotOf words .«index_len») index))
   unfolding askSound
-  sound-told {held} e = go (isSound (length header) (length arena) (length index) (slotOf words) index) e
+  sound-asked {held} e = go (isSound (length header) (length arena) (length index) (slotOf words) index) e
     where
       go : (b : Bool) → some held ≡ cond b (some (holds number (take (slotOf words .«index_len») index))) none
           → (b ≡ true) × (held ≡ holds number (take (slotOf words .«index_len») index))
@@ -127,7 +127,7 @@ pub ready : (words index header arena out-header out-body : List ℕ) {w : List 
     → isSound (length header) (length arena) (length index) (slotOf words) index ≡ true → w ≡ wordsOf (touched (slotOf words) request-id now-ms tick)
     → Ready w index header arena out-header out-body
 ready words index header arena out-header out-body request-id now-ms tick s e t =
-    let m = holding _ _ _ (slotOf words) index e in
+    let m = sound-told _ _ _ (slotOf words) index e in
     rw t (record {
       nine = refl;
       head = m .head;

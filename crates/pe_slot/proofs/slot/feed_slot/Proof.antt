@@ -9,7 +9,7 @@ use Rattle.pe_slot.specs.Memory.{slotOf, isSound}
 use Rattle.pe_slot.specs.Records.{holds}
 use Rattle.pe_slot.specs.Feed.{isShaped}
 use Rattle.pe_slot.specs.Steps.{soundnessTold}
-use Rattle.pe_slot.proofs.FeedAsked.{Shaped, shaped-told, damaged-told, sound-told, ready, fed-unshaped, fed-damaged, fed-long, fed-sound}
+use Rattle.pe_slot.proofs.FeedAsked.{Shaped, shaped-told, damaged-asked, sound-asked, ready, fed-unshaped, fed-damaged, fed-long, fed-sound}
 use Rattle.pe_slot.proofs.slot.feed_slot.Statement.{statement}
 use Rattle.pe_slot.proofs.slot.feed_slot.Tie as tie
 
@@ -37,7 +37,7 @@ sound : (c : tie.After-held)
     → (let s = start (asked (after c) .before) in
     (isSound (length (now (s .args .header))) (length (now (s .args .arena))) (length (now (s .args .index))) (slotOf (now (s .args .words))) (now (s .args .index)) ≡ true)
     × (c .held .given .0 .0 ≡ holds (s .args .chunk-num) (take (slotOf (now (s .args .words)) .«index_len») (now (s .args .index)))))
-sound c = sound-told _ _ _ _ _ (sym (ap soundnessTold (c .held .given .1)) ∙ after c .soundness-of .ensures)
+sound c = sound-asked _ _ _ _ _ (sym (ap soundnessTold (c .held .given .1)) ∙ after c .soundness-of .ensures)
 
 is-shaped-requires : tie.Need-is-shaped-requires
 is-shaped-requires c κs = search needs
@@ -100,7 +100,7 @@ returns-2 c =
     let e = asked (c .before .before) in
     let s = start (e .before) in
     fed-damaged (now (s .args .words)) (now (s .args .index)) (now (s .args .header)) (now (s .args .arena)) (chunk s) (s .args .moment .«now_ms») (s .args .moment .tick) (now (s .args .out-header)) (now (s .args .out-body))
-    (is-shaped e) (damaged-told _ _ _ _ _ (sym (ap soundnessTold (c .enum-told .given .1)) ∙ c .before .before .soundness-of .ensures))
+    (is-shaped e) (damaged-asked _ _ _ _ _ (sym (ap soundnessTold (c .enum-told .given .1)) ∙ c .before .before .soundness-of .ensures))
 
 cast-if2 : tie.Need-cast-if2
 cast-if2 c = search needs
