@@ -94,16 +94,20 @@ fn is_bounded(words: &[u64], index: &[u64], header: &[u8], arena: &[u8]) -> bool
     ensures { λ r. ⌜ r ≡ isBounded (length (now (header .entry))) (length (now (arena .entry))) (length (now (index .entry)))
         (slotOf (now (words .entry))) ⌝ }
 {
-    if words[HEADER_LEN] > header.len() as u64 {
+    let header_len = words[HEADER_LEN];
+    let index_len = words[INDEX_LEN];
+    let property_bytes = words[PROPERTY_BYTES];
+    let active = words[ACTIVE];
+    if header_len > header.len() as u64 {
         return false;
     }
-    if words[INDEX_LEN] > index.len() as u64 {
+    if index_len > index.len() as u64 {
         return false;
     }
-    if words[PROPERTY_BYTES] > arena.len() as u64 {
+    if property_bytes > arena.len() as u64 {
         return false;
     }
-    is_empty_if_free(words[ACTIVE], words[HEADER_LEN], words[INDEX_LEN])
+    is_empty_if_free(active, header_len, index_len)
 }
 
 // Do the records lie end to end, up to the place that the words say?
