@@ -40,19 +40,19 @@ pub struct GeneratedAnswer {
 }
 
 #[repr(C)]
-pub struct HeaderAnswer {
-    pub refusal: u8,
-    pub value: u8,
-    pub header: HeaderFields,
-}
-
-#[repr(C)]
 pub struct HeaderFields {
     pub device_id: u8,
     pub sub_id2: u8,
     pub version: u8,
     pub source: u32,
     pub dest: u32,
+}
+
+#[repr(C)]
+pub struct HeaderAnswer {
+    pub refusal: u8,
+    pub value: u8,
+    pub header: HeaderFields,
 }
 
 #[repr(C)]

@@ -29,8 +29,7 @@ pub extern "C" fn midici_pe_new(
     arenas: &[u8],
 ) -> Answer
     ensures { λ r. ⌜ left r (now (numbers .exit), now (index .exit))
-        ≡ madeOf (newCall shape (now (numbers .entry)) (now (index .entry))
-        (now (headers .entry)) (now (arenas .entry))) ⌝ }
+        ≡ madeOf (newCall shape (now (numbers .entry)) (now (index .entry)) (now (headers .entry)) (now (arenas .entry))) ⌝ }
 {
     made(calls::new(shape, numbers, index, headers, arenas))
 }
@@ -51,9 +50,8 @@ pub extern "C" fn midici_pe_feed(
 ) -> FedAnswer
     ensures { λ r. ⌜ left r (memory (now (numbers .exit)) (now (index .exit)) (now (headers .exit)) (now (arenas .exit))
         (now («out_header» .exit)) (now («out_body» .exit)))
-        ≡ fedOf (feedCall shape
-        (memory (now (numbers .entry)) (now (index .entry)) (now (headers .entry)) (now (arenas .entry)) (now («out_header» .entry))
-        (now («out_body» .entry))) peer (now («raw_chunk» .entry)) «now_ms») ⌝ }
+        ≡ fedOf (feedCall shape (memory (now (numbers .entry)) (now (index .entry)) (now (headers .entry)) (now (arenas .entry))
+        (now («out_header» .entry)) (now («out_body» .entry))) peer (now («raw_chunk» .entry)) «now_ms») ⌝ }
 {
     fed(feed::feed(
         shape,
@@ -77,9 +75,7 @@ pub extern "C" fn midici_pe_cancel(
     peer: u32,
     request_id: u8,
 ) -> Answer
-    ensures { λ r. ⌜ left r (now (numbers .exit))
-        ≡ cancelledOf (cancelCall shape (now (numbers .entry)) peer
-        «request_id») ⌝ }
+    ensures { λ r. ⌜ left r (now (numbers .exit)) ≡ cancelledOf (cancelCall shape (now (numbers .entry)) peer «request_id») ⌝ }
 {
     cancelled(calls::cancel(shape, numbers, peer, request_id))
 }
@@ -87,8 +83,7 @@ pub extern "C" fn midici_pe_cancel(
 // Closes all slots of a peer and unbinds its record: how many there were.
 #[no_mangle]
 pub extern "C" fn midici_pe_drop_peer(shape: Shape, numbers: &mut [u64], peer: u32) -> Answer
-    ensures { λ r. ⌜ left r (now (numbers .exit))
-        ≡ droppedOf (dropCall shape (now (numbers .entry)) peer) ⌝ }
+    ensures { λ r. ⌜ left r (now (numbers .exit)) ≡ droppedOf (dropCall shape (now (numbers .entry)) peer) ⌝ }
 {
     number_counted(calls::drop_peer(shape, numbers, peer))
 }
@@ -103,8 +98,7 @@ pub extern "C" fn midici_pe_poll(
     out_request_ids: &mut [u64],
 ) -> Answer
     ensures { λ r. ⌜ left r (now (numbers .exit), now («out_peers» .exit), now («out_request_ids» .exit))
-        ≡ polledOf (pollCall shape (now (numbers .entry)) «now_ms»
-        (now («out_peers» .entry)) (now («out_request_ids» .entry))) ⌝ }
+        ≡ polledOf (pollCall shape (now (numbers .entry)) «now_ms» (now («out_peers» .entry)) (now («out_request_ids» .entry))) ⌝ }
 {
     number_counted(poll::poll(shape, numbers, now_ms, out_peers, out_request_ids))
 }
@@ -118,8 +112,7 @@ pub extern "C" fn midici_pe_open_list(
     out_request_ids: &mut [u64],
     out_chunks_held: &mut [u64],
 ) -> Answer
-    ensures { λ r. ⌜ OpenListed shape (now (numbers .entry))
-        (now («out_peers» .entry)) (now («out_request_ids» .entry)) (now («out_chunks_held» .entry))
+    ensures { λ r. ⌜ OpenListed shape (now (numbers .entry)) (now («out_peers» .entry)) (now («out_request_ids» .entry)) (now («out_chunks_held» .entry))
         (left r (now («out_peers» .exit), now («out_request_ids» .exit), now («out_chunks_held» .exit))) ⌝ }
 {
     number_counted(open::open_list(shape, numbers, out_peers, out_request_ids, out_chunks_held))

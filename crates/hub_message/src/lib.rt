@@ -24,9 +24,8 @@ pub extern "C" fn midici_pe_feed_message(
 ) -> FedAnswer
     ensures { λ r. ⌜ left r (memory (now (numbers .exit)) (now (index .exit)) (now (headers .exit)) (now (arenas .exit))
         (now («out_header» .exit)) (now («out_body» .exit)))
-        ≡ fedOf (messageCall shape
-        (memory (now (numbers .entry)) (now (index .entry)) (now (headers .entry)) (now (arenas .entry)) (now («out_header» .entry))
-        (now («out_body» .entry))) (now (body .entry)) «now_ms») ⌝ }
+        ≡ fedOf (messageCall shape (memory (now (numbers .entry)) (now (index .entry)) (now (headers .entry)) (now (arenas .entry))
+        (now («out_header» .entry)) (now («out_body» .entry))) (now (body .entry)) «now_ms») ⌝ }
 {
     fed(feed_message(
         shape,

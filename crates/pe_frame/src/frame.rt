@@ -63,8 +63,8 @@ fn low_six(data: &[u8], at: usize) -> bool
 
 // Count, number and property, behind a header of nh bytes that was found good.
 fn decode_counts(data: &[u8], nh: usize) -> ChunkRead
-    requires { ⌜ (9 + nh ≤ length (now «data»)) × (getD (now «data») 0 0 ≤ 127) × (readU14 (drop 1 (now «data»))
-        ≡ granted nh) × (isSevenBit (part 3 nh (now «data»)) ≡ true) ⌝ }
+    requires { ⌜ (9 + nh ≤ length (now «data»)) × (getD (now «data») 0 0 ≤ 127)
+        × (readU14 (drop 1 (now «data»)) ≡ granted nh) × (isSevenBit (part 3 nh (now «data»)) ≡ true) ⌝ }
     ensures { λ r. ⌜ chunkTold r ≡ readFields (now («data» .entry)) ⌝ }
 {
     let behind = HEADER_AT + nh;
@@ -134,8 +134,8 @@ pub(crate) fn questions(
     chunk_num: u16,
     property: &[u8],
 ) -> ChunkLen
-    ensures { λ r. ⌜ chunkLenTold r ≡ askChunk
-        (chunkFrom «request_id» (now (header .entry)) «num_chunks» «chunk_num» (now (property .entry)))
+    ensures { λ r. ⌜ chunkLenTold r
+        ≡ askChunk (chunkFrom «request_id» (now (header .entry)) «num_chunks» «chunk_num» (now (property .entry)))
         (granted (9 + length (now (header .entry)) + length (now (property .entry)))) ⌝ }
 {
     if request_id > REQUEST_ID_MAX {

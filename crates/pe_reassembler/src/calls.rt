@@ -165,8 +165,8 @@ pub fn cancel(shape: Shape, numbers: &mut [u64], peer: u32, request_id: u8) -> C
 // How many slots of a record are open.
 fn open_slots(numbers: &[u64], p: usize) -> u64
     requires { ⌜ HasPeer (now numbers) p ⌝ }
-    ensures { λ r. ⌜ (r ≡ openCount (now (numbers .entry)) p 0 + openCount (now (numbers .entry)) p 1 + openCount (now (numbers .entry)) p
-        2 + openCount (now (numbers .entry)) p 3) × (r ≤ 4) ⌝ }
+    ensures { λ r. ⌜ (r ≡ openCount (now (numbers .entry)) p 0 + openCount (now (numbers .entry)) p 1
+        + openCount (now (numbers .entry)) p 2 + openCount (now (numbers .entry)) p 3) × (r ≤ 4) ⌝ }
 {
     is_active(numbers, p, 0) as u64
         + is_active(numbers, p, 1) as u64
@@ -248,9 +248,8 @@ fn slot_bytes(numbers: &[u64], p: usize, s: usize) -> u64
 // The bytes that a peer's slots hold, on top of those so far.
 fn add_peer_bytes(total: u64, numbers: &[u64], p: usize) -> u64
     requires { ⌜ HasPeer (now numbers) p ⌝ }
-    ensures { λ r. ⌜ r ≡ min (total
-        + (slotBytes (now (numbers .entry)) p 0 + slotBytes (now (numbers .entry)) p 1 + slotBytes (now (numbers .entry)) p 2 + slotBytes
-        (now (numbers .entry)) p 3)) 18446744073709551615 ⌝ }
+    ensures { λ r. ⌜ r ≡ min (total + (slotBytes (now (numbers .entry)) p 0 + slotBytes (now (numbers .entry)) p 1
+        + slotBytes (now (numbers .entry)) p 2 + slotBytes (now (numbers .entry)) p 3)) 18446744073709551615 ⌝ }
 {
     let one = held_sum(total, slot_bytes(numbers, p, 0));
     let two = held_sum(one, slot_bytes(numbers, p, 1));

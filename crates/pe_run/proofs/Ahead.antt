@@ -12,7 +12,7 @@ use Rattle.seven_bit.proofs.ReplyLaws.{asked, first-granted, same-grant, and-to
 use Rattle.midici_core.specs.Message.{Message, readMessage}
 use Rattle.pe_frame.specs.Chunk.{Chunk, Fields, readFields, chunkOf, readChunk}
 use Rattle.pe_frame.proofs.RoundTrip.{read-in-range}
-use Rattle.pe_reassembler.specs.Table.{inRange, hasNumbers, hasRooms, isMuid}
+use Rattle.pe_reassembler.specs.Table.{inRange, numbersLen, hasNumbers, hasRooms, isMuid}
 use Rattle.pe_reassembler.specs.Feed.{FeedLeft, feedLeft, atTable, chunkRead, hasAll, feedCall, messageRead, messageCall}
 use Rattle.pe_reassembler.specs.Poll.{Timeout, dueFrom, sorted, closeDue, polled, pollCall}
 use Rattle.pe_reassembler.specs.Open.{Shown, listed, openCall}
@@ -138,7 +138,7 @@ full-range n few = ap (λ (b : Bool). b && true && true && true) (le-leb n 16 fe
 pub long-enough : (n : ℕ) (t : Table) → n ≤ 16 → LongEnough n t → LongFor (fullSize n) t
 unfolding hasRooms hasNumbers
 long-enough n t few long =
-    let w : 1 + 38 * n ≤ length (t .numbers) = long .numbers in
+    let w : numbersLen (fullSize n) ≤ length (t .numbers) = omega (arith, long .numbers) in
     let i : 4 * n * 2048 ≤ length (t .index) = omega (arith, long .index) in
     let h : 4 * n * 4096 ≤ length (t .headers) = omega (arith, long .headers) in
     let a : 4 * n * 65536 ≤ length (t .arenas) = omega (arith, long .arenas) in

@@ -11,6 +11,7 @@ use Rattle.seven_bit.specs.Reply.{Reply, granted, refused}
 use Rattle.pe_slot.specs.Slot.{held, allHeld, bodyLen, isWhole, Event, waiting, whole, eventOf, headerFits, sameHeader, eqList, headerAgrees, noneKnown, newHeader, countAgrees, newCount, afterChunk, passed, judge, insert, inOrder, bodyOf}
 use Rattle.pe_slot.specs.Feed.{toldAnswer, outHeader, outBody}
 use Rattle.pe_reassembler.specs.Calls.{reservedOf}
+use Rattle.pe_reassembler.specs.Table.{numbersLen}
 use Rattle.pe_run.specs.Lists.{keep}
 use Rattle.pe_run.specs.Model.{Entry, Model, isLate, findsRecord, hasFour, judged, Arrived, arrives, acted}
 use Rattle.pe_run.specs.Calls.{Call, Answer, fed, timed-out, Arrival, grantedOf, arrivalOf, actOf, Key, keyOf, TimedOut, Right, AllRight}
@@ -135,7 +136,7 @@ instance-run t long =
 -- There is such memory.
 pub memory-long : LongEnough 2 lentMemory
 unfolding lentMemory
-memory-long = record { numbers = zeros 77; index = zeros 16384; headers = zeros 32768; arenas = zeros 524288 }
+memory-long = record { numbers = zeros (numbersLen (fullSize 2)); index = zeros 16384; headers = zeros 32768; arenas = zeros 524288 }
   where
     zeros : (n : ℕ) → n ≤ length (replicate {A = ℕ} n 0)
     zeros n = rw (length-replicate {A = ℕ} n 0) (omega arith)

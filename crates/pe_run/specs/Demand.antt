@@ -1,6 +1,6 @@
 -- Demand 3: one statement about every run of calls on a full-size table.
 -- Assumes nothing.
-use Prim.Native.Nat.{ℕ, suc, _-_, _*_, _+_, _≤_, _<_}
+use Prim.Native.Nat.{ℕ, suc, _-_, _*_, _≤_, _<_}
 use mathlib.Core.Bool.{Bool, true, false, cond, _&&_}
 use mathlib.Core.List.{List, [], _∷_, _++_, map}
 use mathlib.Core.Option.{Option, none, some}
@@ -12,6 +12,7 @@ use Rattle.pe_slot.specs.Feed.{still, lengths}
 use Rattle.pe_chunker.specs.Cut.{cutCount, cutChunk}
 use Rattle.pe_reassembler.specs.declared.shape.Shape.{Shape}
 use Rattle.pe_reassembler.specs.Open.{Perm, Shown, openSlots}
+use Rattle.pe_reassembler.specs.Table.{numbersLen}
 use Rattle.pe_run.specs.Lists.{tally}
 use Rattle.pe_run.specs.Model.{Model, find, openOf, findsRecord, Act, arrive, cancel, drop as drop-all, poll, nothing}
 use Rattle.pe_run.specs.Calls.{Call, Answer, fed, Arrival, arrivalOf, actOf, modelAfter, AllRight}
@@ -23,7 +24,7 @@ fullSize n = record { «max_peers» = n; «header_bytes» = 4096; «tx_bytes» =
 
 -- Memory long enough for a full-size table of n peers, whatever it holds.
 pub record LongEnough (n : ℕ) (t : Table) : Type 0 where
-  pub numbers : 1 + 38 * n ≤ length (t .numbers)
+  pub numbers : numbersLen (fullSize n) ≤ length (t .numbers)
   pub index : 8192 * n ≤ length (t .index)
   pub headers : 16384 * n ≤ length (t .headers)
   pub arenas : 262144 * n ≤ length (t .arenas)

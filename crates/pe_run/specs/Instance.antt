@@ -11,12 +11,14 @@ use Rattle.midici_core.specs.Header.{headerBytes}
 use Rattle.pe_frame.specs.Chunk.{Chunk, chunkFrom}
 use Rattle.pe_frame.specs.Write.{chunkBytes, headerFor}
 use Rattle.pe_slot.specs.Feed.{still, lengths}
+use Rattle.pe_reassembler.specs.Table.{numbersLen}
 use Rattle.pe_run.specs.Calls.{Call, feed, feed-message, cancel, drop-peer, poll, memory-stats, Answer, fed, was-open, counted, timed-out, totals}
 use Rattle.pe_run.specs.Run.{Table, table}
+use Rattle.pe_run.specs.Demand.{fullSize}
 
 -- ---- what is lent
 unfoldable pub lentMemory : Table
-lentMemory = table (replicate 77 0) (replicate 16384 0) (replicate 32768 0) (replicate 524288 0)
+lentMemory = table (replicate (numbersLen (fullSize 2)) 0) (replicate 16384 0) (replicate 32768 0) (replicate 524288 0)
 
 unfoldable pub lentHeader : List ℕ
 lentHeader = replicate 4096 0

@@ -10,14 +10,15 @@ use lib.ListN.{length, take, set}
 use Rattle.seven_bit.specs.Parts.{splice}
 use Rattle.seven_bit.specs.Reply.{Reply, granted, refused}
 use Rattle.pe_wire.specs.Errors.{peRefused}
+use Rattle.pe_frame.specs.Chunk.{Chunk}
 use Rattle.pe_slot.specs.declared.layout.TxSlot.{TxSlot}
 use Rattle.pe_slot.specs.declared.slot.Asked.{Asked}
 use Rattle.pe_slot.specs.declared.slot.Soundness.{Soundness}
 use Rattle.pe_slot.specs.Layout.{slotWords, numChunksAt, headerSetAt, headerLenAt, indexLenAt, propertyBytesAt}
-use Rattle.pe_slot.specs.Slot.{Slot, eqList, isWhole, eventOf}
-use Rattle.pe_slot.specs.Memory.{slotOf, packed, endsAt, isSound}
+use Rattle.pe_slot.specs.Slot.{Slot, eqList, isWhole, eventOf, judge}
+use Rattle.pe_slot.specs.Memory.{slotOf, packed, contents, endsAt, isSound}
 use Rattle.pe_slot.specs.Records.{holds}
-use Rattle.pe_slot.specs.Feed.{Told, still, toldAnswer, outHeader, outBody, cleared}
+use Rattle.pe_slot.specs.Feed.{Told, still, toldAnswer, SlotLeft, placed, outHeader, outBody, cleared}
 
 -- The part of question 31 that needs no pass over the records.
 abbrev pub isBounded : ℕ → ℕ → ℕ → TxSlot → Bool
@@ -132,3 +133,10 @@ finishOf words s out-header out-body =
     (cond (isWhole (s .header) (s .count) (s .pieces)) (cleared words) words)
     (outHeader (granted (eventOf (s .header) (s .count) (s .pieces))) out-header)
     (outBody (granted (eventOf (s .header) (s .count) (s .pieces))) out-body)
+
+-- A touched slot after all steps: its questions are put to what it holds, and their verdict is carried out.
+abbrev pub askedSlot : List ℕ → List ℕ → List ℕ → List ℕ → Chunk → List ℕ → List ℕ → SlotLeft
+askedSlot words index header arena c out-header out-body =
+    placed (slotOf words) index header arena c
+    (judge (length header) (length arena) (length index) (contents (slotOf words) index header arena) c)
+    out-header out-body

@@ -24,13 +24,13 @@ ghost use Prim.Native.Nat.{_≤_};
 ghost use lib.Dec.{eqb};
 ghost use lib.ListN.{length, take};
 ghost use Rattle.pe_slot.specs.Layout.{slotWords};
-ghost use Rattle.pe_slot.specs.Slot.{eqList, judge};
+ghost use Rattle.pe_slot.specs.Slot.{eqList};
 ghost use Rattle.pe_slot.specs.Memory.{slotOf, wordsOf, contents};
-ghost use Rattle.pe_slot.specs.Feed.{slotLeft, isShaped, feedSlot, fedTold, placed, touched, closeWords};
+ghost use Rattle.pe_slot.specs.Feed.{slotLeft, isShaped, feedSlot, fedTold, touched, closeWords};
 ghost use Rattle.pe_slot.specs.Records.{holds};
 ghost use Rattle.pe_frame.specs.Chunk.{chunkFrom};
 ghost use Rattle.pe_slot.specs.Steps.{isBounded, soundnessTold, askSound, Ready, askedTold, headerTaken, takeHeader, countTaken, takeCount};
-ghost use Rattle.pe_slot.specs.Steps.{pieceAdded, addPiece, finished, finishOf};
+ghost use Rattle.pe_slot.specs.Steps.{pieceAdded, addPiece, finished, finishOf, askedSlot};
 
 // When a chunk comes: the time, and the tick that it gives its slot.
 pub struct Moment {
@@ -333,12 +333,9 @@ fn feed_sound(
     requires { ⌜ (length (now property) ≤ 16383) × (held ≡ holds «chunk_num» (take (slotOf (now words) .«index_len») (now index))) ⌝ }
     ensures { λ r. ⌜ slotLeft (fedTold r) (now (words .exit)) (now (index .exit)) (now (header .exit)) (now (arena .exit))
         (now («out_header» .exit)) (now («out_body» .exit))
-        ≡ placed (slotOf (now (words .entry))) (now (index .entry)) (now (header .entry)) (now (arena .entry))
-        (chunkFrom (slotOf (now (words .entry)) .«request_id») (now («chunk_header» .entry)) «num_chunks» «chunk_num»
-        (now (property .entry))) (judge (length (now (header .entry))) (length (now (arena .entry))) (length (now (index .entry)))
-        (contents (slotOf (now (words .entry))) (now (index .entry)) (now (header .entry)) (now (arena .entry)))
-        (chunkFrom (slotOf (now (words .entry)) .«request_id») (now («chunk_header» .entry)) «num_chunks» «chunk_num»
-        (now (property .entry)))) (now («out_header» .entry)) (now («out_body» .entry)) ⌝ }
+        ≡ askedSlot (now (words .entry)) (now (index .entry)) (now (header .entry)) (now (arena .entry))
+        (chunkFrom (slotOf (now (words .entry)) .«request_id») (now («chunk_header» .entry)) «num_chunks» «chunk_num» (now (property .entry)))
+        (now («out_header» .entry)) (now («out_body» .entry)) ⌝ }
 {
     if let Asked::No(e) = take_header(words, header, chunk_num, chunk_header) {
         return Fed::Refused(e);
@@ -367,8 +364,9 @@ pub fn feed_slot(
     out_header: &mut [u8],
     out_body: &mut [u8],
 ) -> Fed
-    ensures { λ r. ⌜ slotLeft (fedTold r) (now (words .exit)) (now (index .exit)) (now (header .exit)) (now (arena .exit)) (now («out_header» .exit))
-        (now («out_body» .exit)) ≡ feedSlot (now (words .entry)) (now (index .entry)) (now (header .entry)) (now (arena .entry))
+    ensures { λ r. ⌜ slotLeft (fedTold r) (now (words .exit)) (now (index .exit)) (now (header .exit)) (now (arena .exit))
+        (now («out_header» .exit)) (now («out_body» .exit))
+        ≡ feedSlot (now (words .entry)) (now (index .entry)) (now (header .entry)) (now (arena .entry))
         (chunkFrom «request_id» (now («chunk_header» .entry)) «num_chunks» «chunk_num» (now (property .entry)))
         (moment .«now_ms») (moment .tick) (now («out_header» .entry)) (now («out_body» .entry)) ⌝ }
 {
