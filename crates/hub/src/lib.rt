@@ -2,4 +2,5 @@
 pub mod answer;
 pub mod chunks;
 pub mod controller;
+pub mod files;
 pub mod table;

@@ -1,0 +1,4 @@
+pub mod Syx
+pub mod Listing
+pub mod Scan
+pub mod Walk
