@@ -1,3 +1,4 @@
 pub mod ScanLaws
 pub mod ReadLaws
 pub mod WalkLaws
+pub mod Theorems
