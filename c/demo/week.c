@@ -545,7 +545,8 @@ static midici_pe_syx read_file(const struct file *file, uint64_t *places, uint64
     if (found.refusal != MIDICI_PE_OK)
         print_refused(found.refusal);
     else
-        printf("      Messages found: %" PRIu64 ". Torn, and left out: %" PRIu64 ".\n", found.messages, found.torn);
+        printf("      Messages found: %" PRIu64 ". Torn and left out: %" PRIu64 ". What is between them is dropped.\n",
+               found.messages, found.torn);
     return found;
 }
 

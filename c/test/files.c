@@ -66,13 +66,13 @@ static void lend_file(struct lending *lending, const struct bytes *file)
     lent_keep(&lending->file);
 }
 
-static bool told(midici_pe_syx answer, uint8_t refusal, uint64_t messages, uint64_t torn)
+static bool answers(midici_pe_syx answer, uint8_t refusal, uint64_t messages, uint64_t torn)
 {
     return answer.refusal == refusal && answer.messages == messages && answer.torn == torn;
 }
 
 /* Does a column begin with these numbers, and keep its own behind them? */
-static bool listed(const struct lent *column, const uint64_t *numbers, uint64_t count)
+static bool holds(const struct lent *column, const uint64_t *numbers, uint64_t count)
 {
     return (count == 0 || memcmp(column->at, numbers, 8 * (size_t)count) == 0) && lent_same_from(column, 8 * (size_t)count);
 }
@@ -87,17 +87,17 @@ static void test_columns(struct lending *lending, const struct held *held, size_
     midici_pe_syx answer =
         midici_pe_syx_list(file->at, file->len, lent_words(places), places_len, lent_words(lengths), lengths_len);
     if (held->messages > places_len || held->messages > lengths_len) {
-        check(told(answer, 32, 0, 0), "a short column is refused with 32", of);
+        check(answers(answer, 32, 0, 0), "a short column is refused with 32", of);
         check(lent_same_from(places, 0) && lent_same_from(lengths, 0), "a refusal leaves both columns", of);
     } else {
-        check(told(answer, 0, held->messages, held->torn), "how many are listed, and how many are torn", of);
-        check(listed(places, held->places, held->messages), "the places, and what is past them", of);
-        check(listed(lengths, held->lengths, held->messages), "the lengths, and what is past them", of);
+        check(answers(answer, 0, held->messages, held->torn), "how many are listed, and how many are torn", of);
+        check(holds(places, held->places, held->messages), "the places, and what is past them", of);
+        check(holds(lengths, held->lengths, held->messages), "the lengths, and what is past them", of);
     }
     check(lent_guarded(places) && lent_guarded(lengths), "nothing is written before a column", of);
     check(lent_same_from(file, 0) && lent_guarded(file), "the file stays", of);
     midici_pe_syx model = model_syx_list(file, places, lengths);
-    check(told(model, answer.refusal, answer.messages, answer.torn), "the model answers the same", of);
+    check(answers(model, answer.refusal, answer.messages, answer.torn), "the model answers the same", of);
     check(lent_same_from(places, 0) && lent_same_from(lengths, 0), "the model lists the same", of);
 }
 
@@ -225,9 +225,9 @@ static void test_nothing(struct lending *lending)
     lent_resize(places, 0);
     lent_resize(lengths, 0);
     midici_pe_syx answer = midici_pe_syx_list(file->at, 0, lent_words(places), 0, lent_words(lengths), 0);
-    check(told(answer, 0, 0, 0), "nothing is listed", "a file of no bytes");
+    check(answers(answer, 0, 0, 0), "nothing is listed", "a file of no bytes");
     answer = midici_pe_syx_list(message, sizeof message, lent_words(places), 0, lent_words(lengths), 0);
-    check(told(answer, 32, 0, 0), "columns of no elements are refused with 32", "an empty message");
+    check(answers(answer, 32, 0, 0), "columns of no elements are refused with 32", "an empty message");
 }
 
 /* ---- Files of every length ---- */
@@ -329,7 +329,7 @@ static void test_fed(void)
     add_bytes(&file, message.at, message.len);
     add_byte(&file, 0xF7);
     midici_pe_syx answer = midici_pe_syx_list(file.at, file.len, &place, 1, &length, 1);
-    check(told(answer, 0, 1, 1), "a message is listed", "a message from a file");
+    check(answers(answer, 0, 1, 1), "a message is listed", "a message from a file");
     make_begun(&table);
     midici_pe_fed fed = table_feed_message(&table, file.at + place, (size_t)length, 1000);
     check(fed.refusal == 0 && fed.whole == 1 && fed.header_len == 2 && fed.body_len == 6, "the list is whole",
