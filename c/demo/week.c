@@ -529,8 +529,8 @@ static void saturday(const struct list *list, struct file *file)
     save_chunk(file, list, 1);
     save_chunk(file, list, 3);
     save_bytes(file, torn.bytes, torn.len, "chunk 2, torn as a plug is pulled");
-    save_bytes(file, note, sizeof note, "a key is struck");
     save_chunk(file, list, 2);
+    save_bytes(file, note, sizeof note, "a key is struck");
     save_chunk(file, list, 5);
     save_bytes(file, clock, sizeof clock, "ticks of a clock");
     save_chunk(file, list, 4);
