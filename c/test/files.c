@@ -272,7 +272,7 @@ static void test_inside(struct lending *lending, size_t at, unsigned byte)
     test_file(lending, &file, &held, "a byte above 7F at each place");
 }
 
-/* Dirt of each length and each byte but F0 before a message, and behind it. */
+/* A message with so many bytes of dirt before it, and as many behind it. */
 static void test_dirt(struct lending *lending, size_t len, unsigned byte)
 {
     static struct bytes file;
@@ -284,7 +284,7 @@ static void test_dirt(struct lending *lending, size_t len, unsigned byte)
     hold(&held, len + 1, 2);
     for (size_t i = 0; i < len; i++)
         add_byte(&file, byte);
-    test_file(lending, &file, &held, "dirt of each length");
+    test_file(lending, &file, &held, "dirt before and behind");
 }
 
 static void test_lengths(struct lending *lending)
@@ -293,10 +293,13 @@ static void test_lengths(struct lending *lending)
     for (size_t at = 0; at < LONG_BODY; at++)
         for (unsigned byte = 0x80; byte <= 0xFF; byte++)
             test_inside(lending, at, byte);
-    for (size_t len = 0; len <= LONG_BODY; len += len < 70 ? 1 : 23)
-        for (unsigned byte = 0; byte <= 0xFF; byte++)
-            if (byte != 0xF0)
-                test_dirt(lending, len, byte);
+    for (size_t len = 0; len <= LONG_BODY; len++) {
+        test_dirt(lending, len, 0x7F);
+        test_dirt(lending, len, 0xF7);
+    }
+    for (unsigned byte = 0; byte <= 0xFF; byte++)
+        if (byte != 0xF0)
+            test_dirt(lending, LONG_BODY, byte);
 }
 
 /* ---- Many messages, and what is done with them ---- */
