@@ -81,11 +81,12 @@ test-c:
 	@c/at-hand Cannot-run "the C tests"
 	@$(MAKE) -s tested-c
 
-tested-c: target/c/readme target/c/exports target/c/week
+tested-c: target/c/readme target/c/exports target/c/week target/c/bodies
 	@c/test/header
 	@target/c/exports
 	@target/c/week >target/c/week.log || { cat target/c/week.log; exit 1; }
 	@echo "The demo ends as it should."
+	@c/test/syx/run
 	@if c/test/sanitizers; then $(MAKE) -s sanitized-c; fi
 	@c/sizes >target/c/sizes.log || { cat target/c/sizes.log; exit 1; }
 	@echo "No call takes more stack than the header says, and memset is all that has to be supplied."
@@ -119,6 +120,9 @@ target/c/exports: $(TESTS) $(HEADERS) $(LIBRARY) target/c/compiler
 
 target/c/exports_sanitized: $(TESTS) $(HEADERS) $(LIBRARY) target/c/compiler
 	@$(SANITIZED) $(TESTS) $(LIBRARY) $(LDFLAGS) -o $@
+
+target/c/bodies: c/test/syx/bodies.c include/midici_pe.h $(LIBRARY) target/c/compiler
+	@$(C99) c/test/syx/bodies.c $(LIBRARY) $(LDFLAGS) -o $@
 
 target/c/readme: README.md include/midici_pe.h $(LIBRARY) target/c/compiler
 	@sed -n '/^```c$$/,/^```$$/{/^```/!p}' README.md >target/c/readme.c

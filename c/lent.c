@@ -73,6 +73,13 @@ void lent_null(struct lent *lent)
     lent->at = NULL;
 }
 
+void lent_resize_or_null(struct lent *lent, size_t len)
+{
+    lent_resize(lent, len);
+    if (len == 0)
+        lent_null(lent);
+}
+
 void lent_fill(struct lent *lent)
 {
     for (size_t i = 0; i < lent->len; i++)

@@ -27,6 +27,9 @@ void lent_resize(struct lent *lent, size_t len);
 /* Makes the slice NULL with length 0. */
 void lent_null(struct lent *lent);
 
+/* Makes the slice `len` bytes long, and NULL where that is 0. */
+void lent_resize_or_null(struct lent *lent, size_t len);
+
 /* Fills the slice with known bytes, none of them 0. */
 void lent_fill(struct lent *lent);
 

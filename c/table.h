@@ -131,5 +131,6 @@ midici_pe_answer model_split_chunk(uint8_t request_id, const struct lent *header
 midici_pe_answer model_encode_message(uint8_t sub_id2, uint32_t source, uint32_t dest, uint8_t request_id,
                                       const struct lent *header, uint16_t num_chunks, uint16_t chunk_num,
                                       const struct lent *property, struct lent *out);
+midici_pe_syx model_syx_list(const struct lent *file, struct lent *places, struct lent *lengths);
 
 #endif

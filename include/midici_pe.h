@@ -1,7 +1,9 @@
-/* MIDI-CI Property Exchange: cut a header and a body into chunks, write messages, and join what arrives.
+/* MIDI-CI Property Exchange: cut a header and a body into chunks, write messages, join what arrives, and find the messages
+ * of a .syx file.
  *
  * Words. A peer is a device, named by its MUID, a number of 28 bits. A list is the header and the body of one exchange.
- * A chunk is one piece of a list. A message is a CI header of 13 bytes with a chunk behind it, without F0 and F7.
+ * A chunk is one piece of a list. A message is a CI header of 13 bytes with a chunk behind it, without F0 and F7. In a file
+ * a message is whatever stands between F0 and F7 (see Files).
  *
  * Memory. The library allocates nothing, keeps no pointer after a call and has no state of its own. All memory is yours
  * and is lent for the time of a call. It has no I/O, takes no locks and never ends the program. The one function that it
@@ -10,14 +12,15 @@
  * Slices. A slice is a pointer and a length; the length counts elements, not bytes. A pointer may be NULL where the length
  * is 0. A call writes within the slices that are not const, and nowhere else.
  *
- * Answers. midici_pe_answer, midici_pe_fed and midici_pe_stats begin with `refusal`: 0, or the number that says why the
- * call was turned down (enum midici_pe_refusal). With a refusal every other field is 0, except `value` with number 24.
+ * Answers. midici_pe_answer, midici_pe_fed, midici_pe_stats and midici_pe_syx begin with `refusal`: 0, or the number that
+ * says why the call was turned down (enum midici_pe_refusal). With a refusal every other field is 0, except `value` with
+ * number 24.
  * Unless a call says otherwise, a refused call leaves all lent memory as it was. midici_pe_request_id has no refusal.
  * Compare fields, not the bytes of the structs: there is padding between fields.
  *
- * Time. Every call returns, whatever its arguments. Its time grows with the bytes that it is given and the chunks that the
- * list holds, with one exception: a list whose chunk numbers have a gap above its count is joined, once, in time by the
- * square of its chunks, some two million steps for 2,048 of them.
+ * Time. Every call returns, whatever its arguments. Its time grows with the bytes that it is given, a file's among them,
+ * and the chunks that the list holds, with one exception: a list whose chunk numbers have a gap above its count is joined,
+ * once, in time by the square of its chunks, some two million steps for 2,048 of them.
  *
  * Trust. What is said here of answers and memory is proved of calls that keep four rules, and a call cannot see whether
  * they are kept:
@@ -38,7 +41,7 @@
 #include <stdint.h>
 
 #define MIDICI_PE_VERSION_MAJOR 0
-#define MIDICI_PE_VERSION_MINOR 2
+#define MIDICI_PE_VERSION_MINOR 3
 #define MIDICI_PE_VERSION_PATCH 0
 
 /* More stack than any call takes (make sizes measures each). */
@@ -73,7 +76,9 @@ enum midici_pe_refusal {
 
     MIDICI_PE_CHUNK_OUT_OF_RANGE = 29,     /* no chunk of the list has this number */
     MIDICI_PE_BAD_SHAPE = 30,              /* the shape is out of range, or a lent slice is too short for it */
-    MIDICI_PE_DAMAGED_SLOT = 31            /* the table's memory holds what no call on it leaves there (see Receiving) */
+    MIDICI_PE_DAMAGED_SLOT = 31,           /* the table's memory holds what no call on it leaves there (see Receiving) */
+
+    MIDICI_PE_SYX_TOO_MANY_MESSAGES = 32   /* a file has more messages than `places` or `lengths` can hold */
 };
 
 /* What most calls answer. `value` is the kind of message with refusal 24, else 0. What `count` counts is said at each call;
@@ -102,6 +107,13 @@ typedef struct midici_pe_stats {
     uint64_t active_bytes;
     uint64_t active_slots;
 } midici_pe_stats;
+
+/* What reading a file answers: how many messages were listed, and how many are torn. */
+typedef struct midici_pe_syx {
+    uint8_t refusal;
+    uint64_t messages;
+    uint64_t torn;
+} midici_pe_syx;
 
 /* A request id, and the counter after it. */
 typedef struct midici_pe_request_id {
@@ -264,6 +276,25 @@ midici_pe_stats midici_pe_memory_stats(midici_pe_shape shape, const uint64_t *nu
  * its index, headers and arenas.
  * Refusals: 30. */
 midici_pe_answer midici_pe_reserved_bytes(midici_pe_shape shape);
+
+/* ---- Files ---- */
+
+/* Lists the messages of a .syx file, in the order of the file. `file` is the whole file in memory, of any length. A message
+ * is F0, a body of bytes up to 7F (it may be empty), and F7. Message i, counted from 0, is told at element i of the two
+ * outputs: places[i] is how many bytes of the file stand before its body, its F0 the last of them, and lengths[i] how many
+ * bytes the body has, F0 and F7 not counted. So `file + places[i]` and `lengths[i]` are just what midici_pe_feed_message
+ * takes; a body that is none of its messages it refuses.
+ *   - A message that meets the file's end, or a byte above 7F other than F7 (also a real-time byte, F8 to FF), is torn: it
+ *     is counted in `torn`, and not listed. If that byte is F0, the next message starts there.
+ *   - Bytes outside of messages are dropped: those before the first F0, and those from the end of a message, whole or
+ *     torn, to the next F0. An F7 among them is dropped too.
+ *   - What stands before an F0 changes nothing of the messages from it on.
+ * Each output must hold all messages; the two may have different lengths. A file of n bytes has at most n / 2 messages, for
+ * each has an F0 and an F7 of its own: n / 2 elements are always enough. Elements past `messages` keep their values.
+ * Refusals: 32 an output is too short. Both outputs are then as they were, and `messages` is 0: a call with short outputs
+ * does not tell how many there are. */
+midici_pe_syx midici_pe_syx_list(const uint8_t *file, size_t file_len, uint64_t *places, size_t places_len,
+                                 uint64_t *lengths, size_t lengths_len);
 
 #ifdef __cplusplus
 }

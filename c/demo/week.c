@@ -1,9 +1,10 @@
 /* The demo: the week of one scene list.
  *
  * A mixer sends its scene list to a hub, in chunks, by two cables. Both ends are played here: the mixer's side cuts the
- * list and writes the messages, the hub's side feeds what arrives and puts the list together. Each step is printed, with
- * the bytes that travel. At the end what arrived is compared with what was sent: the exit status is 0 if it is the same,
- * 1 if it is not or if a call answered something else than the step expects. */
+ * list and writes the messages, the hub's side feeds what arrives and puts the list together. At the weekend the same list
+ * comes once more, as a .syx file, whose messages the hub finds and feeds. Each step is printed, with the bytes that
+ * travel. What arrived is compared with what was sent, both times: the exit status is 0 if it is the same, 1 if it is not
+ * or if a call answered something else than the step expects. */
 #include "midici_pe.h"
 
 #include <inttypes.h>
@@ -25,6 +26,7 @@ enum {
     LIST_BODY_LEN = 1000,
     MAX_SYSEX = 256, /* no message is longer, F0 and F7 included */
     CHUNKS = 5,
+    FILE_BYTES = 2048, /* room for the file */
 
     GET = 0x34,       /* the kind of a message that asks for a list */
     GET_REPLY = 0x35, /* the kind of a message that brings one */
@@ -57,6 +59,12 @@ struct message {
     size_t len;
     bool is_torn;
     uint8_t bytes[MAX_SYSEX];
+};
+
+/* A .syx file, whole in memory. */
+struct file {
+    size_t len;
+    uint8_t bytes[FILE_BYTES];
 };
 
 /* What a call wrote when a list was whole. */
@@ -124,6 +132,7 @@ static void print_text(const char *name, const uint8_t *bytes, size_t len)
 static void print_bytes(const uint8_t *bytes, size_t len)
 {
     const size_t first = 28, last = 4;
+    printf("      bytes: ");
     for (size_t i = 0; i < len; i++) {
         if (len > first + last && i == first) {
             printf(" ..");
@@ -140,7 +149,6 @@ static void print_message(const struct message *message)
     const uint8_t *chunk = message->bytes + 1 + MIDICI_PE_CI_HEADER_LEN, *end = message->bytes + message->len;
     size_t header_len = chunk[1] + 128u * chunk[2];
     const uint8_t *body = chunk + 3 + header_len + 6;
-    printf("      bytes: ");
     print_bytes(message->bytes, message->len);
     if (header_len > 0)
         print_text("header", chunk + 3, header_len);
@@ -154,15 +162,19 @@ static const char *name_of_refusal(uint8_t refusal)
         return "MIDICI_PE_TRUNCATED: the chunk ends too early";
     case MIDICI_PE_INCONSISTENT_CHUNKING:
         return "MIDICI_PE_INCONSISTENT_CHUNKING: it does not go with the chunks before it";
+    case MIDICI_PE_SYX_TOO_MANY_MESSAGES:
+        return "MIDICI_PE_SYX_TOO_MANY_MESSAGES: the file has more messages than that";
     default:
         return "midici_pe.h has its name";
     }
 }
 
+static void print_refused(uint8_t refusal) { printf("      Refused, number %d, %s.\n", refusal, name_of_refusal(refusal)); }
+
 static void print_fed(midici_pe_fed answer)
 {
     if (answer.refusal != MIDICI_PE_OK)
-        printf("      Refused, number %d, %s.\n", answer.refusal, name_of_refusal(answer.refusal));
+        print_refused(answer.refusal);
     else if (answer.whole)
         printf("      The list is whole: %" PRIu64 " bytes of header, %" PRIu64 " of body.\n", answer.header_len,
                answer.body_len);
@@ -258,12 +270,12 @@ static void make_table(void)
     must(made.refusal == MIDICI_PE_OK, "the table is made");
 }
 
-/* What cable A's port does: it hands over the whole message, F0 and F7 taken off. */
-static midici_pe_fed arrive_whole(const struct message *message, uint64_t now_ms, struct received *received)
+/* A whole message, F0 and F7 taken off: that is what cable A's port hands over, and what stands in a file. */
+static midici_pe_fed arrive_whole(const uint8_t *body, size_t len, uint64_t now_ms, struct received *received)
 {
     return midici_pe_feed_message(shape, numbers, NUMBERS_LEN, fragment_index, INDEX_LEN, headers, sizeof headers, arenas,
-                                  sizeof arenas, message->bytes + 1, len_behind(message, 1), now_ms, received->header,
-                                  HEADER_BYTES, received->body, TX_BYTES);
+                                  sizeof arenas, body, len, now_ms, received->header, HEADER_BYTES, received->body,
+                                  TX_BYTES);
 }
 
 /* What cable B's port does: it has read the CI header itself, and hands over the chunk behind it and its sender. */
@@ -275,17 +287,23 @@ static midici_pe_fed arrive_bare(uint32_t sender, const struct message *message,
                           received->header, HEADER_BYTES, received->body, TX_BYTES);
 }
 
-static midici_pe_fed arrive(char cable, uint32_t sender, const struct message *message, uint64_t now_ms,
-                            struct received *received)
+/* Prints an answer; the lengths of a whole list are kept. */
+static midici_pe_fed take_answer(midici_pe_fed answer, struct received *received)
 {
-    midici_pe_fed answer =
-        cable == 'A' ? arrive_whole(message, now_ms, received) : arrive_bare(sender, message, now_ms, received);
     if (answer.whole) {
         received->header_len = (size_t)answer.header_len;
         received->body_len = (size_t)answer.body_len;
     }
     print_fed(answer);
     return answer;
+}
+
+static midici_pe_fed arrive(char cable, uint32_t sender, const struct message *message, uint64_t now_ms,
+                            struct received *received)
+{
+    return take_answer(cable == 'A' ? arrive_whole(message->bytes + 1, len_behind(message, 1), now_ms, received)
+                                    : arrive_bare(sender, message, now_ms, received),
+                       received);
 }
 
 /* One chunk on its way: cut, written, sent by a cable, fed to the table. */
@@ -383,16 +401,22 @@ static void print_cut(const struct list *list)
         printf(" %zu%s", message_with_chunk(list, chunk_num).len, chunk_num < CHUNKS ? "," : " bytes.\n");
 }
 
+/* The message of chunk 2, up to the moment in which a plug is pulled. */
+static struct message torn_message(const struct list *list)
+{
+    struct message message = message_with_chunk(list, 2);
+    message.len = 100;
+    message.is_torn = true;
+    return message;
+}
+
 static void wednesday(const struct list *list, struct received *received)
 {
     const uint64_t day = 2 * (uint64_t)DAY_MS;
-    struct message message;
+    struct message message = torn_message(list);
     printf("\nWednesday: the mixer answers, and somebody pulls a plug\n");
     print_cut(list);
     expect_waiting(send_chunk('A', list, 1, day, received));
-    message = message_with_chunk(list, 2);
-    message.len = 100;
-    message.is_torn = true;
     printf("     5 ms: the plug of cable B is pulled in the middle of chunk 2. The hub gets %zu bytes, and no F7:\n",
            message.len);
     print_message(&message);
@@ -462,13 +486,93 @@ static bool same_bytes(const char *what, const uint8_t *sent, size_t sent_len, c
     return true;
 }
 
-static bool friday(const struct list *list, const struct received *received)
+static bool same_list(const struct list *list, const struct received *received)
 {
-    printf("\nFriday: what arrived is held against what was sent, byte for byte\n");
     bool header = same_bytes("header", list->header, list->header_len, received->header, received->header_len);
     bool body = same_bytes("body", list->body, list->body_len, received->body, received->body_len);
     puts(header && body ? "The scene list has arrived as it was sent." : "The scene list is NOT what was sent.");
     return header && body;
+}
+
+static bool friday(const struct list *list, const struct received *received)
+{
+    printf("\nFriday: what arrived is held against what was sent, byte for byte\n");
+    return same_list(list, received);
+}
+
+/* ---- The weekend: the list in a file ---- */
+
+static void save_bytes(struct file *file, const uint8_t *bytes, size_t len, const char *what)
+{
+    must(file->len + len <= FILE_BYTES, "the file has room");
+    printf("  From byte %zu on: %s, %zu bytes:\n", file->len, what, len);
+    print_bytes(bytes, len);
+    memcpy(file->bytes + file->len, bytes, len);
+    file->len += len;
+}
+
+static void save_chunk(struct file *file, const struct list *list, uint16_t chunk_num)
+{
+    char what[32];
+    struct message message = message_with_chunk(list, chunk_num);
+    snprintf(what, sizeof what, "chunk %u", chunk_num);
+    save_bytes(file, message.bytes, message.len, what);
+}
+
+/* The five messages, in any order, with what got between them while they were recorded. */
+static void saturday(const struct list *list, struct file *file)
+{
+    const uint8_t clock[3] = {0xF8, 0xF8, 0xF8}, note[3] = {0x90, 0x3C, 0x40};
+    struct message torn = torn_message(list);
+    printf("\nSaturday: somebody records the mixer's messages as a .syx file\n");
+    save_bytes(file, clock, sizeof clock, "ticks of a clock");
+    save_chunk(file, list, 1);
+    save_chunk(file, list, 3);
+    save_bytes(file, torn.bytes, torn.len, "chunk 2, torn as a plug is pulled");
+    save_chunk(file, list, 2);
+    save_bytes(file, note, sizeof note, "a key is struck");
+    save_chunk(file, list, 5);
+    save_bytes(file, clock, sizeof clock, "ticks of a clock");
+    save_chunk(file, list, 4);
+    printf("  The file has %s bytes.\n", in_thousands(file->len));
+}
+
+/* Reads the file into columns for so many messages. */
+static midici_pe_syx read_file(const struct file *file, uint64_t *places, uint64_t *lengths, size_t messages)
+{
+    midici_pe_syx found = midici_pe_syx_list(file->bytes, file->len, places, messages, lengths, messages);
+    printf("  The hub looks for messages in the file's %s bytes, with room for %zu.\n", in_thousands(file->len), messages);
+    if (found.refusal != MIDICI_PE_OK)
+        print_refused(found.refusal);
+    else
+        printf("      Messages found: %" PRIu64 ". Torn and left out: %" PRIu64 ". What is between them is dropped.\n",
+               found.messages, found.torn);
+    return found;
+}
+
+/* Feeds a message that was found in the file. */
+static midici_pe_fed feed_found(const struct file *file, uint64_t place, uint64_t length, struct received *received)
+{
+    const uint8_t *body = file->bytes + place;
+    printf("  A message is at place %" PRIu64 ", with length %" PRIu64 ":\n", place, length);
+    print_bytes(body, (size_t)length);
+    return take_answer(arrive_whole(body, (size_t)length, 6 * (uint64_t)DAY_MS, received), received);
+}
+
+/* Finds the messages, and feeds each to an empty table: the last one makes the list whole. */
+static bool sunday(const struct list *list, const struct file *file, struct received *received)
+{
+    uint64_t places[FILE_BYTES / 2], lengths[FILE_BYTES / 2];
+    printf("\nSunday: the hub is switched on again, and reads the file\n");
+    make_table();
+    must(read_file(file, places, lengths, CHUNKS - 1).refusal == MIDICI_PE_SYX_TOO_MANY_MESSAGES, "there is no room");
+    midici_pe_syx found = read_file(file, places, lengths, file->len / 2);
+    must(found.refusal == MIDICI_PE_OK && found.messages == CHUNKS && found.torn == 1, "five are found, and one is torn");
+    for (int i = 0; i < CHUNKS - 1; i++)
+        expect_waiting(feed_found(file, places[i], lengths[i], received));
+    expect_whole(feed_found(file, places[CHUNKS - 1], lengths[CHUNKS - 1], received), list);
+    print_totals(0);
+    return same_list(list, received);
 }
 
 static void print_words(void)
@@ -477,21 +581,27 @@ static void print_words(void)
     puts("and send them in pieces, as MIDI messages. A hub stands between such devices and puts the pieces of");
     puts("many lists together again, by several cables, in any order, from several devices at once. That it");
     puts("does so as the requirement says, stays within the memory that it was lent and always answers is");
-    puts("proved for every input; this program calls it for one week, in which a mixer sends a scene list.\n");
+    puts("proved for every input; this program calls it for one week, in which a mixer sends a scene list,");
+    puts("and the same list comes as a file.\n");
     puts("A peer is a device that sends to the hub. A list is a header and a body. It travels in chunks,");
     puts("each in a message of its own, and a table in the hub's memory puts the chunks together again.");
-    puts("A request number says which list of a peer a chunk belongs to. Bytes are hexadecimal, other");
-    puts("numbers decimal; in text a line's end is a slash. Times are counted from the day's first chunk.");
+    puts("A request number says which list of a peer a chunk belongs to. A .syx file holds messages, one");
+    puts("after another, each from F0 to F7. Bytes are hexadecimal, other numbers decimal; in text a line's");
+    puts("end is a slash. Times are counted from the day's first chunk.");
 }
 
 int main(void)
 {
-    static struct received received, scratch;
+    static struct received received, scratch, from_file;
     static struct list list;
+    static struct file file;
     print_words();
     monday();
     fill_scene_list(&list, tuesday());
     wednesday(&list, &received);
     thursday(&list, &received, &scratch);
-    return friday(&list, &received) ? 0 : 1;
+    bool by_cable = friday(&list, &received);
+    saturday(&list, &file);
+    bool by_file = sunday(&list, &file, &from_file);
+    return by_cable && by_file ? 0 : 1;
 }

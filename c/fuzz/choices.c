@@ -105,19 +105,12 @@ static bool choose_lens(struct input *input, midici_pe_shape shape, size_t lens[
     return is_small;
 }
 
-static void lend_bytes(struct lent *lent, size_t len)
-{
-    lent_resize(lent, len);
-    if (len == 0)
-        lent_null(lent);
-}
-
 static void lend(struct lending *lending, midici_pe_shape shape, const size_t lens[LENT])
 {
     struct table *table = &lending->table;
     table->shape = shape;
     for (int slice = 0; slice < LENT; slice++) {
-        lend_bytes(&table->lent[slice], lens[slice]);
+        lent_resize_or_null(&table->lent[slice], lens[slice]);
         lent_fill(&table->lent[slice]);
     }
     lending->is_sound = false;
@@ -130,6 +123,8 @@ static void make_rooms(struct lending *lending, size_t len)
     lent_make(&lending->header, 20000);
     lent_make(&lending->body, 20000);
     lent_make(&lending->out, SMALL);
+    lent_make(&lending->places, SMALL);
+    lent_make(&lending->lengths, SMALL);
 }
 
 /* The first call makes the rooms: small ones, and large ones for what is longer, since they are looked through after every
@@ -256,7 +251,7 @@ void choose_chunk(struct input *input, const struct table *table, struct lent *b
 void choose_bytes(struct input *input, struct lent *bytes)
 {
     size_t wanted = take(input);
-    lend_bytes(bytes, least(wanted, input->left));
+    lent_resize_or_null(bytes, least(wanted, input->left));
     for (size_t i = 0; i < bytes->len; i++)
         bytes->at[i] = (uint8_t)take(input);
 }
@@ -264,9 +259,9 @@ void choose_bytes(struct input *input, struct lent *bytes)
 void choose_list(struct input *input, struct lending *lending)
 {
     unsigned odd = take(input);
-    lend_bytes(&lending->header, odd < 240 ? take(input) % 130 : least((size_t)take_bits(input, 2), 20000));
-    lend_bytes(&lending->body, odd < 200 ? take(input) * 3u : least((size_t)take_bits(input, 2), SMALL * 4));
-    lend_bytes(&lending->out, odd % 4 == 0 ? take(input) : MIDICI_PE_CHUNK_LEN);
+    lent_resize_or_null(&lending->header, odd < 240 ? take(input) % 130 : least((size_t)take_bits(input, 2), 20000));
+    lent_resize_or_null(&lending->body, odd < 200 ? take(input) * 3u : least((size_t)take_bits(input, 2), SMALL * 4));
+    lent_resize_or_null(&lending->out, odd % 4 == 0 ? take(input) : MIDICI_PE_CHUNK_LEN);
     for (size_t i = 0; i < lending->header.len; i++)
         lending->header.at[i] = (uint8_t)(i % 128);
     for (size_t i = 0; i < lending->body.len; i++)
@@ -277,4 +272,45 @@ void choose_list(struct input *input, struct lending *lending)
     lent_keep(&lending->header);
     lent_keep(&lending->body);
     lent_keep(&lending->out);
+}
+
+/* Adds a piece to a file: a byte that means something there, any byte, or a run of data bytes. */
+static void add_piece(struct input *input, struct lent *file, size_t *len)
+{
+    const uint8_t marks[12] = {0xF0, 0xF7, 0xF0, 0xF7, 0xF0, 0xF7, 0xF8, 0xFF, 0x7F, 0x80, 0xEF, 0xF6};
+    unsigned choice = take(input);
+    if (choice < 160)
+        add_byte(file, len, marks[choice % 12]);
+    else if (choice < 176)
+        add_byte(file, len, take(input));
+    else
+        for (unsigned run = choice < 216 ? choice % 8 : take(input); run > 0; run--)
+            add_byte(file, len, run % 128);
+}
+
+/* How long a column is, in bytes: mostly enough for so many messages, else any length up to that. */
+static size_t take_column(struct input *input, size_t messages)
+{
+    unsigned choice = take(input);
+    return 8 * (choice < 192 ? messages + choice % 3 : choice % (messages + 1));
+}
+
+void choose_file(struct input *input, struct lending *lending)
+{
+    struct lent *file = &lending->body;
+    size_t pieces = take(input) % 96, len = 0, messages = 0;
+    lent_resize(file, SMALL * 4);
+    for (size_t i = 0; i < pieces && input->left > 0; i++)
+        add_piece(input, file, &len);
+    memmove(file->at + file->len - len, file->at, len);
+    lent_resize_or_null(file, len);
+    lent_keep(file);
+    for (size_t i = 0; i < len; i++)
+        messages += file->at[i] == 0xF7;
+    lent_resize_or_null(&lending->places, take_column(input, messages));
+    lent_resize_or_null(&lending->lengths, take_column(input, messages));
+    lent_fill(&lending->places);
+    lent_fill(&lending->lengths);
+    lent_keep(&lending->places);
+    lent_keep(&lending->lengths);
 }

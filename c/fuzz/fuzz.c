@@ -170,6 +170,21 @@ static void call_encode_message(struct input *input, struct lending *lending)
     must(lent_same_from(out, 0), "encode_message writes what the model says");
 }
 
+static void call_syx_list(struct input *input, struct lending *lending)
+{
+    struct lent *file = &lending->body, *places = &lending->places, *lengths = &lending->lengths;
+    choose_file(input, lending);
+    midici_pe_syx answer =
+        midici_pe_syx_list(file->at, file->len, lent_words(places), places->len / 8, lent_words(lengths), lengths->len / 8);
+    must(lent_guarded(places) && lent_guarded(lengths), "nothing before a column is written");
+    must(lent_same_from(places, 8 * (size_t)answer.messages) && lent_same_from(lengths, 8 * (size_t)answer.messages),
+         "what is past the messages stays");
+    must(lent_same_from(file, 0) && lent_guarded(file), "the file stays");
+    midici_pe_syx model = model_syx_list(file, places, lengths);
+    must(answer.refusal == model.refusal && answer.messages == model.messages && answer.torn == model.torn, "syx_list");
+    must(lent_same_from(places, 0) && lent_same_from(lengths, 0), "syx_list lists what the model says");
+}
+
 static void call_alloc(struct input *input)
 {
     uint8_t counter = (uint8_t)take(input);
@@ -211,6 +226,8 @@ static void call_any(struct input *input, struct lending *lending)
         damage(input, lending);
         break;
     case 4:
+        call_syx_list(input, lending);
+        break;
     case 5:
     case 6:
         call_table(input, lending, call);

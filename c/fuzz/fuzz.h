@@ -8,7 +8,7 @@
 struct lending {
     struct table table;
     bool is_sound; /* the table was made by midici_pe_new, and nobody but calls has written it since */
-    struct lent header, body, out;
+    struct lent header, body, out, places, lengths;
 };
 
 /* What is left of the fuzzer's bytes. */
@@ -46,5 +46,8 @@ void choose_chunk(struct input *input, const struct table *table, struct lent *b
 
 /* A header, a body and an output for the cutter and the writer. */
 void choose_list(struct input *input, struct lending *lending);
+
+/* A file of whole and torn messages with dirt between them, in the place of a body, and the two columns for it. */
+void choose_file(struct input *input, struct lending *lending);
 
 #endif

@@ -46,5 +46,6 @@ void test_feeding(void);
 void test_table_calls(void);
 void test_unreadable(void);
 void test_lent_memory(void);
+void test_files(void);
 
 #endif

@@ -8,5 +8,6 @@ int main(void)
     test_table_calls();
     test_unreadable();
     test_lent_memory();
+    test_files();
     return checks_done();
 }

@@ -9,13 +9,11 @@ enum { MOST = 32768, LARGEST_BODY = 16383 * 104 + 1 };
 /* A header or a body for a case: `len` bytes of letters, the last of them `last` unless that is 0. */
 static void fill(struct lent *lent, size_t len, uint8_t last)
 {
-    lent_resize(lent, len);
+    lent_resize_or_null(lent, len);
     for (size_t i = 0; i < len; i++)
         lent->at[i] = (uint8_t)('A' + i % 53);
     if (last != 0 && len > 0)
         lent->at[len - 1] = last;
-    if (len == 0)
-        lent_null(lent);
 }
 
 static bool counted(midici_pe_answer answer, uint64_t count)

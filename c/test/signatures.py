@@ -14,7 +14,7 @@ ROOT = pathlib.Path(__file__).resolve().parent.parent.parent
 HEADER = ROOT / 'include' / 'midici_pe.h'
 TYPES = {'u8': ('uint8_t', 1), 'u16': ('uint16_t', 2), 'u32': ('uint32_t', 4), 'u64': ('uint64_t', 8), 'usize': ('size_t', 8)}
 STRUCTS = {'Answer': 'midici_pe_answer', 'FedAnswer': 'midici_pe_fed', 'StatsAnswer': 'midici_pe_stats',
-           'RequestId': 'midici_pe_request_id', 'Shape': 'midici_pe_shape'}
+           'SyxAnswer': 'midici_pe_syx', 'RequestId': 'midici_pe_request_id', 'Shape': 'midici_pe_shape'}
 
 
 def wrong(what):
@@ -122,6 +122,7 @@ for function in re.findall(r'\b(\w+)\([^()]*\);', header):
 print_structs(hub + source('pe_reassembler/src/shape.rt'))
 refusals = print_refusals('pe_wire/src/error.rt', 'PeError', 'MIDICI_PE_')
 refusals += print_refusals('midici_core/src/error.rt', 'CiError', 'MIDICI_PE_CI_')
+refusals += print_refusals('syx/src/lib.rt', 'SyxError', 'MIDICI_PE_SYX_')
 if len(re.findall(r'\bMIDICI_PE_\w+ = [1-9]', header)) != refusals:
     wrong(f'{HEADER.name} has other refusals than the source')
 print_sizes()
