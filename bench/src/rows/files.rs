@@ -52,7 +52,8 @@ struct Read {
 }
 
 /// It allocates what it returns, as the original's functions do. Of five plain ways this was the quickest: one loop over the
-/// bytes with a state takes twice its time.
+/// bytes with a state takes twice its time. Not so plain, and not here: passing over blocks of 64 bytes by `contains` and
+/// `is_ascii` takes a tenth to a quarter of it on these files.
 fn read_by_rust(file: &[u8]) -> Read {
     let mut read = Read::default();
     let mut at = 0;

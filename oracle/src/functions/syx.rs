@@ -63,10 +63,11 @@ fn case(places: usize, lengths: usize, file: &[u8]) -> Vec<u8> {
 /// With columns that hold all messages, exactly or with a word more; and with one of them a word too short.
 fn with_columns(file: &[u8], each: Each) {
     let n = held(file).bodies.len();
-    [(n, n), (n + 1, n + 1)].iter().for_each(|(places, lengths)| each(&case(*places, *lengths, file)));
+    let mut rooms = vec![(n, n), (n + 1, n + 1)];
     if n > 0 {
-        [(n - 1, n), (n, n - 1)].iter().for_each(|(places, lengths)| each(&case(*places, *lengths, file)));
+        rooms.extend([(n - 1, n), (n, n - 1)]);
     }
+    rooms.iter().for_each(|(places, lengths)| each(&case(*places, *lengths, file)));
 }
 
 /// Dirt, a message of n bytes, dirt and an empty message.
@@ -75,8 +76,7 @@ fn among_dirt(n: usize) -> Vec<u8> {
     [&dirt, &[0xF0][..], &body, &[0xF7], &dirt, &[0xF0, 0xF7]].concat()
 }
 
-/// All files of up to seven of the bytes; any byte at any place of a file whose parts are longer than what is read at once; and
-/// parts of lengths that two bytes just hold or not.
+/// All files of up to seven of the bytes; any byte at any place of a longer one; and lengths that two bytes just hold, or not.
 pub fn files(each: Each) {
     (0..=7).for_each(|n| lists(&BYTES, n, &mut |file| with_columns(file, each)));
     let file = among_dirt(70);
@@ -86,7 +86,7 @@ pub fn files(each: Each) {
     (65_534..=65_537).for_each(|n| with_columns(&among_dirt(n), each));
 }
 
-/// Bytes up to 7F, one in eight lists with another byte among them.
+/// Bytes up to 7F, once in eight with any byte among them.
 fn random_body(rng: &mut Rng) -> Vec<u8> {
     let n = rng.pick(&LENGTHS);
     let n = rng.around(n);
@@ -108,7 +108,7 @@ fn random_piece(rng: &mut Rng) -> Vec<u8> {
     }
 }
 
-/// Up to eight such pieces, once in sixteen any of the bytes; columns mostly one short, exact or one more, each by itself.
+/// Up to eight such pieces, once in sixteen any of `BYTES`; columns mostly one short, exact or one more, each by itself.
 pub fn random_file(rng: &mut Rng) -> Vec<u8> {
     let n = rng.below(9);
     let file: Vec<u8> = if rng.once_in(16) {

@@ -1,7 +1,7 @@
 //! Compares the port with the original: `compare SEED CASES RUNS`. All inputs of a function where they are few; else all that are
-//! short or at the boundaries, and then CASES random ones; then RUNS runs of calls on a table. What the original lacks is compared
-//! with a reading of document 02. It stops at the first difference. It fails too where an export is not compared, or never gave
-//! a refusal that it can give. `compare exports` prints the names of the exports that are compared.
+//! short or at the boundaries, and then CASES random ones; then RUNS runs of calls on a table. What the original lacks is
+//! compared with a reading of document 02. It stops at the first difference. It fails too where an export is not compared, or
+//! never gave a refusal that it can give. `compare exports` prints the names of the exports that are compared.
 mod port;
 mod runs;
 mod state;
