@@ -56,18 +56,24 @@ struct Read {
 /// `is_ascii` takes a tenth to a quarter of it on these files.
 fn read_by_rust(file: &[u8]) -> Read {
     let mut read = Read::default();
-    let mut at = 0;
-    while let Some(dirt) = file[at..].iter().position(|b| *b == 0xF0) {
-        let place = at + dirt + 1;
-        let body = &file[place..];
-        let len = body.iter().position(|b| *b > 0x7F).unwrap_or(body.len());
-        if body.get(len) == Some(&0xF7) {
-            read.places.push(place as u64);
+    let mut rest = file;
+    while let Some(dirt) = first(rest, |b| b == 0xF0) {
+        rest = &rest[dirt + 1..];
+        let len = first(rest, |b| b > 0x7F).unwrap_or(rest.len());
+        if rest.get(len) == Some(&0xF7) {
+            read.places.push((file.len() - rest.len()) as u64);
             read.lengths.push(len as u64);
         } else {
             read.torn += 1;
         }
-        at = place + len;
+        rest = &rest[len..];
     }
     read
+}
+
+/// The place of the first byte that is looked for. Not built into its callers, where its loop, in some builds, came to lie so
+/// that it took twice the time.
+#[inline(never)]
+fn first(bytes: &[u8], looked_for: impl Fn(u8) -> bool) -> Option<usize> {
+    bytes.iter().position(|b| looked_for(*b))
 }
