@@ -36,6 +36,10 @@ class Row:
     def copies_ratio(self):
         return self.by.get("copies")
 
+    def copy_rate(self):
+        """How fast the port goes through a file, as a share of the rate of one copy of it."""
+        return 1 / self.by["copies"] if self.table == "files" else None
+
     def target(self):
         """The most that port / Rust may be."""
         return 0.6 if "65536 bytes at 128" in self.name else 1.0

@@ -1,4 +1,4 @@
-"""Draws docs/benchmarks.svg: the ratios of feed, split and readers as bars, and the cost of one feed by the records held."""
+"""Draws docs/benchmarks.svg: the ratios of feed, split, readers and files as bars, and the cost of one feed by the records held."""
 
 import math
 from html import escape
@@ -44,10 +44,10 @@ def bar(row, y, unit):
 
 
 def bars(found, top):
-    """The bars of three tables, and where they end."""
+    """The bars of all tables but growth, and where they end."""
     unit = (RIGHT - LEFT) / max(1.2, max(row.ratio() for row in found))
     drawn, y = text(20, top, "Time of the port / time of the Rust (upright mark: the target)", weight="bold", size=14), top + 14
-    for name in ("feed", "split", "readers"):
+    for name in ("feed", "split", "readers", "files"):
         drawn += text(20, y + 13, name, weight="bold")
         for row in (row for row in found if row.table == name):
             drawn += bar(row, y, unit)

@@ -13,6 +13,7 @@ TITLES = {
     "split": "Split: one list, its chunks counted and all of them written",
     "readers": "Readers: one call",
     "growth": "Growth: one feed, by the records that its slot holds before",
+    "files": "Files: one .syx file, all its messages listed",
 }
 
 
@@ -41,7 +42,7 @@ def marked(value, target):
 def cells(row, copies):
     own = [row.label(), ns(row.median["port"]), ns(row.median["rust"]), marked(row.ratio(), row.target())]
     own += [ratio(row.quickest_ratio()), count(row.count.get("port")), count(row.count.get("rust")), ratio(row.count_ratio())]
-    return own + [marked(row.copies_ratio(), row.copies_target())] if copies else own
+    return own + [ratio(row.copy_rate()) or marked(row.copies_ratio(), row.copies_target())] if copies else own
 
 
 def line(words):
@@ -51,7 +52,8 @@ def line(words):
 def table(title, found):
     copies = any("copies" in row.median for row in found)
     head = ["", "port", "Rust", "port / Rust", "quickest", "instructions, port", "Rust", "port / Rust"]
-    head += ["port / two copies"] if copies else []
+    last = "share of memcpy's rate" if title == TITLES["files"] else "port / two copies"
+    head += [last] if copies else []
     rule = ["---"] + ["--:"] * (len(head) - 1)
     return f"### {title}\n\n" + line(head) + line(rule) + "".join(line(cells(row, copies)) for row in found)
 

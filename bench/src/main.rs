@@ -1,5 +1,6 @@
-//! Measures the port beside the original. `bench times` prints the times of each row, and `bench counts`, run by callgrind, has
-//! its instructions counted. A second word chooses the rows whose table and name have it in them.
+//! Measures the port beside the original, or beside a Rust reader where the original has none. `bench times` prints the times of
+//! each row, and `bench counts`, run by callgrind, has its instructions counted. A second word chooses the rows whose table and
+//! name have it in them.
 mod callgrind;
 mod inputs;
 mod measure;

@@ -2,12 +2,8 @@
 use crate::inputs::{List, PEERS, REQUEST_ID};
 use oracle::layout::{numbers_len, slots, FRAGMENT_RECORDS, HEADER_BYTES, TX_BYTES};
 
-const SHAPE: exports::Shape = exports::Shape {
-    max_peers: PEERS,
-    header_bytes: HEADER_BYTES,
-    tx_bytes: TX_BYTES,
-    fragment_records: FRAGMENT_RECORDS,
-};
+const SHAPE: exports::Shape =
+    exports::Shape { max_peers: PEERS, header_bytes: HEADER_BYTES, tx_bytes: TX_BYTES, fragment_records: FRAGMENT_RECORDS };
 
 /// A table of full size with the memory that it is lent, and the two outputs. Nothing of it is cleared between lists.
 pub struct Table {
@@ -67,4 +63,9 @@ pub fn split_chunk(list: &List, chunk_num: u16, out: &mut [u8]) -> usize {
 /// Reads an Mcoded7 text into out: how many bytes it has.
 pub fn mcoded7_decode(text: &[u8], out: &mut [u8]) -> usize {
     exports::codec_mcoded7_decode(text, out).count as usize
+}
+
+/// Lists the messages of a .syx file.
+pub fn syx_list(file: &[u8], places: &mut [u64], lengths: &mut [u64]) -> exports::SyxAnswer {
+    exports::midici_pe_syx_list(file, places, lengths)
 }

@@ -21,7 +21,7 @@ pub struct Row {
     pub operations: u64,
     /// Is there something to go before each run?
     pub prepared: bool,
-    /// The port, the Rust, and where there is a body two copies of it.
+    /// The port, the Rust, and where there is a body two copies of it, or one copy of a file.
     pub sides: Vec<Box<dyn Side>>,
 }
 
@@ -36,6 +36,16 @@ impl Row {
         self.sides.push(Box::new(move || {
             arena.copy_from_slice(black_box(body));
             out.copy_from_slice(black_box(&arena));
+            black_box(&out);
+        }));
+        self
+    }
+
+    /// Beside one copy of a file.
+    pub fn beside_copy(mut self, file: &'static [u8]) -> Row {
+        let mut out = vec![1; file.len()];
+        self.sides.push(Box::new(move || {
+            out.copy_from_slice(black_box(file));
             black_box(&out);
         }));
         self

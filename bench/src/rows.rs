@@ -1,5 +1,6 @@
 //! What is measured. What both sides give is compared when a row is made, before anything of it is measured.
 mod feed;
+mod files;
 mod growth;
 mod readers;
 mod split;
@@ -12,4 +13,5 @@ pub fn each(mut visit: impl FnMut(Row)) {
     split::each(&mut visit);
     readers::each(&mut visit);
     growth::each(&mut visit);
+    files::each(&mut visit);
 }

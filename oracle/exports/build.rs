@@ -108,8 +108,9 @@ fn write_struct(found: &Struct, out: &mut String) {
     if granted.len() == fields.len() {
         writeln!(out, "impl {name} {{ pub fn is_zero(&self) -> bool {{ {zeros} }} }}").unwrap();
     } else {
+        let value = if fields.iter().any(|field| field.name == "value") { "self.value" } else { "0" };
         writeln!(out, "impl Refusing for {name} {{").unwrap();
-        writeln!(out, "    fn refusal(&self) -> u8 {{ self.refusal }}\n    fn value(&self) -> u8 {{ self.value }}").unwrap();
+        writeln!(out, "    fn refusal(&self) -> u8 {{ self.refusal }}\n    fn value(&self) -> u8 {{ {value} }}").unwrap();
         writeln!(out, "    fn grants_nothing(&self) -> bool {{ {zeros} }}\n}}").unwrap();
     }
 }

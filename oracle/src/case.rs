@@ -1,5 +1,4 @@
 //! A call: a function, and its input as bytes.
-use crate::input::u16_at;
 use crate::op::Op;
 use std::fmt;
 
@@ -16,9 +15,8 @@ impl fmt::Display for Case {
 }
 
 impl Case {
-    /// The output that is lent, each byte as `fill` says for its place. A writer's input begins with the room.
+    /// The output that is lent, each byte as `fill` says for its place.
     pub fn lent(&self, fill: impl Fn(usize) -> u8) -> Vec<u8> {
-        let room = if self.op.row().writes { u16_at(&self.input, 0) } else { 0 };
-        (0..room.into()).map(fill).collect()
+        (0..(self.op.row().room)(&self.input)).map(fill).collect()
     }
 }

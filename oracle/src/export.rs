@@ -1,6 +1,6 @@
 //! The port's exports, and the numbers with which each can refuse.
 
-/// Its name, and the numbers of the questions that it can answer no, in document 01's order.
+/// Its name, and the numbers of the questions that it can answer no, in document 01's order, or 02's.
 #[derive(Clone, Copy)]
 pub struct Export {
     pub name: &'static str,
@@ -11,8 +11,9 @@ pub const fn export(name: &'static str, refusals: &'static [u8]) -> Export {
     Export { name, refusals }
 }
 
-/// "Numbers 1 to 9 are `PeError`'s cases in its order, 21 to 28 `CiError`'s, 29 to 31 the port's."
-pub const NUMBERS: [u8; 20] = [1, 2, 3, 4, 5, 6, 7, 8, 9, 21, 22, 23, 24, 25, 26, 27, 28, 29, 30, 31];
+/// "Numbers 1 to 9 are `PeError`'s cases in its order, 21 to 28 `CiError`'s, 29 to 31 the port's." And 32 is document 02's, of
+/// .syx files.
+pub const NUMBERS: [u8; 21] = [1, 2, 3, 4, 5, 6, 7, 8, 9, 21, 22, 23, 24, 25, 26, 27, 28, 29, 30, 31, 32];
 
 /// Those with which no export of crates/hub can refuse: 9 is asked of an Mcoded7 text, 25 of a capability message, and 27 is
 /// asked of the room for a CI message, for which the writer of a whole message asks 3. The exports of crates/codec_exports can.

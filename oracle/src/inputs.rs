@@ -1,4 +1,5 @@
 //! What inputs of several functions are made of, at the boundaries and at random.
+use crate::input::u16_at;
 use crate::rng::Rng;
 
 /// Takes inputs, one after the other.
@@ -58,6 +59,16 @@ pub fn with_room(room: usize, input: &[u8]) -> Vec<u8> {
     [&(room as u16).to_le_bytes()[..], input].concat()
 }
 
+/// The room that a writer's input begins with.
+pub fn room(input: &[u8]) -> usize {
+    u16_at(input, 0).into()
+}
+
+/// Of a function that writes nothing.
+pub fn no_room(_: &[u8]) -> usize {
+    0
+}
+
 /// Numbers within two of each boundary.
 pub fn muids() -> Vec<u32> {
     MUID_EDGES.iter().flat_map(|edge| (0..5).map(|d: u32| edge.wrapping_add(d).wrapping_sub(2))).collect()
@@ -76,10 +87,18 @@ pub fn random_two(rng: &mut Rng) -> Vec<u8> {
     rng.bytes(2)
 }
 
-/// The room in front of the input of a writer that needs `need` bytes: mostly one short, exact or one more.
+/// The room in front of the input of a writer that needs `need` bytes.
 pub fn with_random_room(rng: &mut Rng, need: usize, input: Vec<u8>) -> Vec<u8> {
-    let room = if rng.once_in(8) { rng.below(need + 5) } else { rng.around(need) };
-    with_room(room, &input)
+    with_room(random_room(rng, need), &input)
+}
+
+/// Mostly one short, exact or one more.
+pub fn random_room(rng: &mut Rng, need: usize) -> usize {
+    if rng.once_in(8) {
+        rng.below(need + 5)
+    } else {
+        rng.around(need)
+    }
 }
 
 /// A number of 32 bits, mostly within 28.

@@ -1,23 +1,25 @@
 //! The functions that are compared, a row for each.
 use crate::export::{export, Export};
-use crate::functions::{chunks, controller, cutter, mcoded7, messages, muids, records, wire};
+use crate::functions::{chunks, controller, cutter, mcoded7, messages, muids, records, syx, wire};
 use crate::inputs::{self, Each};
 use crate::outcome::{Answer, Outcome};
 use crate::rng::Rng;
 
 /// What the comparison knows of a function.
 pub struct Row {
-    /// The port's export of it, with what document 01 asks of it.
+    /// The port's export of it, with what document 01, or 02, asks of it.
     pub export: Export,
     /// All inputs, or those at the boundaries.
     pub inputs: fn(Each),
     pub random: fn(&mut Rng) -> Vec<u8>,
     /// The original's answer to an input, with the output that is lent.
     pub original: fn(&[u8], Vec<u8>) -> Outcome,
+    /// Has the original such a function? Else a reading of document 02 stands in for it.
+    pub in_original: bool,
     /// Has it so few inputs that all are compared?
     pub all_compared: bool,
-    /// Does it write into a lent output?
-    pub writes: bool,
+    /// How many bytes of output it is lent, by its input.
+    pub room: fn(&[u8]) -> usize,
     /// Is its first value a yes or a no?
     pub tells_whether: bool,
     /// Is it in the list that the program `replay` plays?
@@ -32,7 +34,8 @@ const fn row(
     original: fn(&[u8], Vec<u8>) -> Outcome,
 ) -> Row {
     let export = export(name, refusals);
-    Row { export, inputs, random, original, all_compared: false, writes: false, tells_whether: false, replayed: true }
+    let room = inputs::no_room;
+    Row { export, inputs, random, original, in_original: true, all_compared: false, room, tells_whether: false, replayed: true }
 }
 
 impl Row {
@@ -40,8 +43,18 @@ impl Row {
         Row { all_compared: true, ..self }
     }
 
+    /// It writes into a lent output, whose room its input begins with.
     const fn writes(self) -> Row {
-        Row { writes: true, ..self }
+        Row { room: inputs::room, ..self }
+    }
+
+    /// It writes two columns of words, which are one output here.
+    const fn writes_columns(self) -> Row {
+        Row { room: syx::columns_room, ..self }
+    }
+
+    const fn not_in_original(self) -> Row {
+        Row { in_original: false, ..self }
     }
 
     const fn tells_whether(self) -> Row {
@@ -152,6 +165,9 @@ functions! {
     /// Chunk number (2), records, eight bytes each.
     Position: row("codec_position", &[], records::to_search, records::random_to_search,
         records::position).tells_whether().not_replayed();
+    /// Places' room (2) and lengths' room (2), in words; the file.
+    SyxList: row("midici_pe_syx_list", &[32], syx::files, syx::random_file,
+        syx::list).not_in_original().writes_columns().not_replayed();
 }
 
 impl Op {

@@ -3,7 +3,7 @@
 //! that is neither can be seen.
 include!(concat!(env!("OUT_DIR"), "/exports.rs"));
 
-/// An answer that begins with a refusal's number and its value.
+/// An answer that begins with a refusal's number and its value; an answer without a value has 0.
 pub trait Refusing {
     fn refusal(&self) -> u8;
     fn value(&self) -> u8;

@@ -1,7 +1,7 @@
 //! Compares the port with the original: `compare SEED CASES RUNS`. All inputs of a function where they are few; else all that are
-//! short or at the boundaries, and then CASES random ones; then RUNS runs of calls on a table. It stops at the first difference.
-//! It fails too where an export is not compared, or never gave a refusal that it can give. `compare exports` prints the names of
-//! the exports that are compared.
+//! short or at the boundaries, and then CASES random ones; then RUNS runs of calls on a table. What the original lacks is
+//! compared with a reading of document 02. It stops at the first difference. It fails too where an export is not compared, or
+//! never gave a refusal that it can give. `compare exports` prints the names of the exports that are compared.
 mod port;
 mod runs;
 mod state;
@@ -42,7 +42,8 @@ fn compare(case: &Case, export: Export, summary: &mut Summary) -> Result<(), Str
     let found = port::answer(case, case.lent(port::fill));
     if found.as_ref() != Ok(&expected) {
         let found = found.map_or_else(|wrong| wrong, |found| found.to_string());
-        return Err(format!("{case}\n  the original: {expected}\n  the port:     {found}"));
+        let other = if case.op.row().in_original { "the original:" } else { "document 02: " };
+        return Err(format!("{case}\n  {other} {expected}\n  the port:     {found}"));
     }
     summary.count(export, expected.answer(case.op));
     summary.bytes += expected.out.len() as u64;
@@ -69,7 +70,8 @@ fn compare_functions(seed: u64, cases: u64, summary: &mut Summary) -> Result<(),
     for (op, export) in Op::ALL {
         compare_all(op, export, seed, cases, summary)?;
         let all = if op.row().all_compared { ", all inputs" } else { "" };
-        println!("{}{all}", summary.line(export));
+        let other = if op.row().in_original { "" } else { ", beside a reading of document 02, not the original" };
+        println!("{}{all}{other}", summary.line(export));
     }
     Ok(())
 }

@@ -51,6 +51,7 @@ pub fn answer(case: &Case, mut lent: Vec<u8>) -> Found<Outcome> {
         Op::SplitChunk => split_chunk(List::read(from(input, 4)), u16_at(input, 2), out),
         Op::WholeEncode => whole_encode(Whole::read(input), out),
         Op::Position => position(&long_words(from(input, 2)), u16_at(input, 0)),
+        Op::SyxList => return syx_list(u16_at(input, 0).into(), from(input, 4), long_words(out)),
     };
     Ok(Outcome { reply: reply?, out: lent })
 }
@@ -174,4 +175,12 @@ fn whole_encode(whole: Whole, out: &mut [u8]) -> Found<Reply> {
 fn position(index: &[u64], chunk_num: u16) -> Found<Reply> {
     let exports::PlaceAnswer { found, place } = exports::codec_position(index, chunk_num);
     granted([found.into(), place])
+}
+
+/// The first words are the column of places, the others that of lengths; both are shown as the output.
+fn syx_list(places_room: usize, file: &[u8], mut columns: Vec<u64>) -> Found<Outcome> {
+    let (places, lengths) = columns.split_at_mut(places_room);
+    let answer = exports::midici_pe_syx_list(file, places, lengths);
+    let reply = reply(answer, |exports::SyxAnswer { refusal: _, messages, torn }| vec![*messages, *torn])?;
+    Ok(Outcome { reply, out: columns.iter().flat_map(|word| word.to_le_bytes()).collect() })
 }

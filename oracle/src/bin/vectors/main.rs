@@ -4,6 +4,7 @@
 mod table;
 
 use oracle::case::Case;
+use oracle::export::Export;
 use oracle::input::List;
 use oracle::op::Op;
 use oracle::outcome::{Answer, Outcome};
@@ -23,10 +24,15 @@ const LIST: usize = 65_536;
 const OF_EACH: usize = 6;
 const TRIES: usize = 20_000;
 
-/// The refusals of the functions that are compared, and 6 and 7 of the table; but for 5: it takes a body of 65,537 bytes, or
+/// The functions that the program plays.
+fn replayed() -> impl Iterator<Item = (Op, Export)> {
+    Op::ALL.into_iter().filter(|(op, _)| op.row().replayed)
+}
+
+/// The refusals of these functions, and 6 and 7 of the table; but for 5: it takes a body of 65,537 bytes, or
 /// 2,049 chunks.
 fn refusals() -> BTreeSet<u8> {
-    let functions = Op::ALL.iter().flat_map(|(_, export)| export.refusals).copied();
+    let functions = replayed().flat_map(|(_, export)| export.refusals).copied();
     functions.chain([6, 7]).filter(|number| *number != 5).collect()
 }
 
@@ -134,8 +140,7 @@ fn all_reached() -> bool {
 
 fn main() -> std::io::Result<()> {
     let dir = std::env::args().nth(1).expect("usage: vectors DIR");
-    let replayed = Op::ALL.into_iter().filter(|(op, _)| op.row().replayed);
-    let samples: Vec<Case> = replayed.flat_map(|(op, _)| sample(op)).collect();
+    let samples: Vec<Case> = replayed().flat_map(|(op, _)| sample(op)).collect();
     let parts = [cases(&examples()), calls(&table::examples()), cases(&samples), calls(&table::runs())];
     let (records, answers): (Vec<_>, Vec<_>) = parts.into_iter().unzip();
     let (list, answers) = (records.concat(), answers.into_iter().flatten().collect::<Vec<Outcome>>());
