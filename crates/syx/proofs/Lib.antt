@@ -1,4 +1,6 @@
 pub mod ScanLaws
 pub mod ReadLaws
 pub mod WalkLaws
-pub mod Theorems
+pub mod Independence
+pub mod RoundTrip
+pub mod WhatIsListed

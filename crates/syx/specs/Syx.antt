@@ -31,19 +31,27 @@ pub data Standing : Type 0 where
   outside : Standing
   inside : ℕ → Standing
 
+-- What byte b at place i does, before the rest of the file is read from where reading then stands.
+abbrev pub byte : Standing → ℕ → ℕ → (Standing → Contents) → Contents
+-- "F0, bytes up to 7F, F7, one message after another. .. Bytes between messages are dropped."
+byte outside i b rest = cond (eqb b 0xF0) (rest (inside (i + 1))) (rest outside)
+-- "A message that meets .. a byte above 7F other than F7, is torn; it is counted, not listed, and if that byte is F0 a new one starts there."
+byte (inside place) i b rest =
+    cond (leb b 0x7F) (rest (inside place))
+    (cond (eqb b 0xF7) (withBody place (i - place) (rest outside))
+    (cond (eqb b 0xF0) (withTorn (rest (inside (i + 1))))
+    (withTorn (rest outside))))
+
+-- "A message that meets the file's end .. is torn".
+abbrev pub atEnd : Standing → Contents
+atEnd outside = nothing
+atEnd (inside place) = withTorn nothing
+
 -- The bytes from place i on.
 unfoldable pub readFrom : Standing → ℕ → List ℕ → Contents
--- "F0, bytes up to 7F, F7, one message after another. .. Bytes between messages are dropped."
-readFrom outside i [] = nothing
-readFrom outside i (b ∷ bs) = cond (eqb b 0xF0) (readFrom (inside (i + 1)) (i + 1) bs) (readFrom outside (i + 1) bs)
--- "A message that meets the file's end, or a byte above 7F other than F7, is torn; it is counted, not listed, and if that byte is F0 a new one
--- starts there."
-readFrom (inside place) i [] = withTorn nothing
-readFrom (inside place) i (b ∷ bs) =
-    cond (leb b 0x7F) (readFrom (inside place) (i + 1) bs)
-    (cond (eqb b 0xF7) (withBody place (i - place) (readFrom outside (i + 1) bs))
-    (cond (eqb b 0xF0) (withTorn (readFrom (inside (i + 1)) (i + 1) bs))
-    (withTorn (readFrom outside (i + 1) bs))))
+readFrom st i [] = atEnd st
+readFrom st i (b ∷ bs) = byte st i b (λ (st′ : Standing). readFrom st′ (i + 1) bs)
 
+-- A file's.
 abbrev pub readFile : List ℕ → Contents
 readFile file = readFrom outside 0 file

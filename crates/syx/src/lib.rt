@@ -1,7 +1,8 @@
 // Reads .syx files: where the bodies of their messages lie.
 mod scan;
 
-use crate::scan::find;
+use crate::scan::find_start;
+use crate::scan::find_status;
 ghost use mathlib.Core.Path.{_≡_};
 ghost use Prim.Native.Nat.{_≤_, _<_};
 ghost use lib.Dec.{eqb};
@@ -73,7 +74,7 @@ fn step(file: &[u8], tally: Tally, room: usize, places: &mut [u64], lengths: &mu
         (now (places .entry)) (now (lengths .entry)) ⌝ }
 {
     let from = tally.from;
-    let start = find(file, from, false);
+    let start = find_start(file, from);
     if start == file.len() {
         return Tally {
             from: start,
@@ -82,7 +83,7 @@ fn step(file: &[u8], tally: Tally, room: usize, places: &mut [u64], lengths: &mu
         };
     }
     let place = start + 1;
-    let end = find(file, place, true);
+    let end = find_status(file, place);
     if !is_end(file, end) {
         return Tally {
             from: end,

@@ -1,4 +1,5 @@
 // Looks for the next byte of a file that matters: outside of a message F0, inside of one any byte above 7F.
+ghost use mathlib.Core.Bool.{true, false};
 ghost use mathlib.Core.Path.{_≡_};
 ghost use Prim.Native.Nat.{_+_, _≤_, _<_};
 ghost use lib.ListN.{length, drop};
@@ -9,7 +10,7 @@ pub(crate) const SYSEX_START: u8 = 0xF0;
 const DATA_MAX: u8 = 0x7F;
 
 // Blocks of so many bytes are passed at once.
-const LONG_BLOCK: usize = 32;
+const LONG_BLOCK: usize = 64;
 
 const SHORT_BLOCK: usize = 8;
 
@@ -43,12 +44,22 @@ fn skip(file: &[u8], from: usize, inside: bool, block: usize) -> usize
     i
 }
 
-// The first such byte from a place on; the file's end where there is none.
-pub(crate) fn find(file: &[u8], from: usize, inside: bool) -> usize
+// The first F0 from a place on; the file's end where there is none.
+pub(crate) fn find_start(file: &[u8], from: usize) -> usize
     requires { ⌜ from ≤ length (now file) ⌝ }
-    ensures { λ r. ⌜ (r ≤ length (now (file .entry))) × (r ≡ from + stopLen inside (drop from (now (file .entry)))) ⌝ }
+    ensures { λ r. ⌜ (r ≤ length (now (file .entry))) × (r ≡ from + stopLen false (drop from (now (file .entry)))) ⌝ }
 {
-    let near = skip(file, from, inside, LONG_BLOCK);
-    let nearer = skip(file, near, inside, SHORT_BLOCK);
-    skip(file, nearer, inside, 1)
+    let near = skip(file, from, false, LONG_BLOCK);
+    let nearer = skip(file, near, false, SHORT_BLOCK);
+    skip(file, nearer, false, 1)
+}
+
+// The first byte above 7F from a place on; the file's end where there is none.
+pub(crate) fn find_status(file: &[u8], from: usize) -> usize
+    requires { ⌜ from ≤ length (now file) ⌝ }
+    ensures { λ r. ⌜ (r ≤ length (now (file .entry))) × (r ≡ from + stopLen true (drop from (now (file .entry)))) ⌝ }
+{
+    let near = skip(file, from, true, LONG_BLOCK);
+    let nearer = skip(file, near, true, SHORT_BLOCK);
+    skip(file, nearer, true, 1)
 }

@@ -9,26 +9,26 @@ use Rattle.syx.proofs.WalkLaws.{none-there, torn-there, listed-there}
 use Rattle.syx.proofs.step.Statement.{statement}
 use Rattle.syx.proofs.step.Tie as tie
 
-abbrev over : tie.After-struct-known2 → tie.After-find2
+abbrev over : tie.After-struct-known2 → tie.After-find-status
 over c = c .before .before .before .before .before .before .before .before .before .before .before
 
 abbrev start : tie.After-struct-known2 → tie.Start
 start c = over c .before .before .before .before .before .before
 
-find-requires : tie.Need-find-requires
-find-requires c κs = search needs
+find-start-requires : tie.Need-find-start-requires
+find-start-requires c κs = search needs
 
 returns : tie.Need-returns
 returns c =
     let a = c .before .before .before .before .before .args in
     let t = a .tally in
-    ((omega arith, search needs, omega arith, omega arith), none-there (now (a .file)) (a .room) (t .from) _ (t .messages) (t .torn) (now (a .places)) (now (a .lengths)) (c .before .find .ensures .1))
+    ((omega arith, search needs, omega arith, omega arith), none-there (now (a .file)) (a .room) (t .from) _ (t .messages) (t .torn) (now (a .places)) (now (a .lengths)) (c .before .find-start .ensures .1))
 
 add-place : tie.Need-add-place
 add-place c = omega arith
 
-find-requires-2 : tie.Need-find-requires-2
-find-requires-2 c κs = omega arith
+find-status-requires : tie.Need-find-status-requires
+find-status-requires c κs = omega arith
 
 is-end-requires : tie.Need-is-end-requires
 is-end-requires c κs = search needs
@@ -40,8 +40,8 @@ returns-2 : tie.Need-returns-2
 returns-2 c =
     let a = c .before .before .before .before .before .before .before .before .before .args in
     let t = a .tally in
-    let f = c .before .before .before .before .before .find in
-    let g = c .before .before .before .find2 in
+    let f = c .before .before .before .before .before .find-start in
+    let g = c .before .before .before .find-status in
     let h : f .result < length (now (a .file)) = omega arith in
     let e = sym (c .before .before .is-end .ensures) ∙ not-true _ (c .before .if2 .taken) in (
       (omega arith, g .ensures .0, omega arith, omega arith),
@@ -70,8 +70,8 @@ returns-3 : tie.Need-returns-3
 returns-3 c =
     let t = start c .args .tally in
     let a = start c .args in
-    let f = over c .before .before .find in
-    let g = over c .find2 in
+    let f = over c .before .before .find-start in
+    let g = over c .find-status in
     let h : f .result < length (now (a .file)) = omega arith in
     let e = sym (c .before .before .before .before .before .before .before .before .before .before .is-end .ensures)
     ∙ not-false _ (c .before .before .before .before .before .before .before .before .before .if2 .left) in (
@@ -85,10 +85,10 @@ pub step-spec : {M : Type 1} → statement M
 step-spec =
     tie.close
     (tie.spec
-    find-requires
+    find-start-requires
     returns
     add-place
-    find-requires-2
+    find-status-requires
     is-end-requires
     add-t13
     returns-2

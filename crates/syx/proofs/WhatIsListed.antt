@@ -1,103 +1,21 @@
--- What holds of every file (document 02, K1).
+-- What is listed: each message that stands in the file, and nothing else, one behind the other; every F0 begins one that is listed or torn.
 -- Assumes nothing.
 use Prim.Native.Nat.{ℕ, suc, _+_, _-_, _≤_, _<_}
 use mathlib.Core.Bool.{Bool, true, false, cond}
-use mathlib.Core.List.{List, [], _∷_, _++_, map, List·Memᴰ, List·Memᴰ·head, List·Memᴰ·tail, List·Memᴰ·not-nil, List·Memᴰ·cases-cons, Memᴰ·append-right}
+use mathlib.Core.List.{List, [], _∷_, _++_, List·Memᴰ, List·Memᴰ·head, List·Memᴰ·not-nil, List·Memᴰ·cases-cons, Memᴰ·append-right}
 use mathlib.Core.Logic.{_⊎_, inl, inr}
 use mathlib.Core.Path.{_≡_, refl, sym, ap, _∙_}
 use native.Mathlib.Nat.{add-zero, zero-add, suc-add}
 use native.Mathlib.Omega.{arith}
-use borrow.Author.Tests.{le-leb, leb-true, eqb-true}
+use borrow.Author.Tests.{leb-true, eqb-true}
 use lib.Dec.{leb, eqb}
-use lib.ListN.{length, take, drop}
-use lib.Seq.{take-at, drop-drop, drop-append-add}
+use lib.ListN.{length}
 use Rattle.seven_bit.specs.SevenBit.{isSevenBit}
-use Rattle.seven_bit.proofs.SevenBitLaws.{seven-bit-cons, seven-bit-split}
-use Rattle.syx.specs.Syx.{Body, Contents, nothing, withBody, withTorn, Standing, outside, inside, readFrom, readFile}
-use Rattle.syx.specs.Messages.{followedBy, later, Stands, Ascending, done, next, starts, fileOf, SevenBit, none, one, bodyIn, ReadsBack}
-
--- ---- what a byte does, for any reading of the bytes behind it
-abbrev byte : Standing → ℕ → ℕ → (Standing → Contents) → Contents
-byte outside i b rest = cond (eqb b 0xF0) (rest (inside (i + 1))) (rest outside)
-byte (inside place) i b rest =
-    cond (leb b 0x7F) (rest (inside place))
-    (cond (eqb b 0xF7) (withBody place (i - place) (rest outside)) (cond (eqb b 0xF0) (withTorn (rest (inside (i + 1)))) (withTorn (rest outside))))
-
-read-byte : (st : Standing) (i b : ℕ) (bs : List ℕ) → readFrom st i (b ∷ bs) ≡ byte st i b (λ (st′ : Standing). readFrom st′ (i + 1) bs)
-unfolding readFrom
-read-byte outside i b bs = refl
-read-byte (inside place) i b bs = refl
-
--- ---- "From each F0 on, the messages, with places counted from it, are the same for all bytes before it."
-followed-byte : (st : Standing) (i b : ℕ) (f g : Standing → Contents) (z : Contents) → ((st′ : Standing) → f st′ ≡ followedBy (g st′) z)
-    → byte st i b f ≡ followedBy (byte st i b g) z
-followed-byte outside i b f g z e = go (eqb b 0xF0)
-  where
-    go : (t : Bool) → cond t (f (inside (i + 1))) (f outside) ≡ followedBy (cond t (g (inside (i + 1))) (g outside)) z
-    go true = e (inside (i + 1))
-    go false = e outside
-followed-byte (inside place) i b f g z e = go (leb b 0x7F) (eqb b 0xF7) (eqb b 0xF0)
-  where
-    tears : (st′ : Standing) → withTorn (f st′) ≡ followedBy (withTorn (g st′)) z
-    tears st′ = ap withTorn (e st′) ∙ rw (sym (suc-add (g st′ .torn) (z .torn)))
-
-    go : (t u v : Bool)
-        → cond t (f (inside place)) (cond u (withBody place (i - place) (f outside)) (cond v (withTorn (f (inside (i + 1)))) (withTorn (f outside))))
-        ≡ followedBy (cond t (g (inside place)) (cond u (withBody place (i - place) (g outside)) (cond v (withTorn (g (inside (i + 1)))) (withTorn (g outside))))) z
-    go true u v = e (inside place)
-    go false true v = ap (withBody place (i - place)) (e outside)
-    go false false true = tears (inside (i + 1))
-    go false false false = tears outside
-
--- an F0 tears a message that is open before it, and so does the end of what stands before it
-before-start : (p s : List ℕ) (i j : ℕ) → j ≡ i + length p → (st : Standing)
-    → readFrom st i (p ++ (0xF0 ∷ s)) ≡ followedBy (readFrom st i p) (readFrom outside j (0xF0 ∷ s))
-unfolding readFrom
-before-start [] s i j e outside = let z : j ≡ i = omega arith in rw (z, zero-add)
-before-start [] s i j e (inside place) =
-    let z : j ≡ i = omega arith in
-    let t : suc (readFrom (inside (i + 1)) (i + 1) s .torn) ≡ suc 0 + readFrom (inside (i + 1)) (i + 1) s .torn = omega arith in
-    rw (z, t)
-before-start (b ∷ bs) s i j e st =
-    read-byte st i b (bs ++ (0xF0 ∷ s))
-    ∙ followed-byte st i b (λ (st′ : Standing). readFrom st′ (i + 1) (bs ++ (0xF0 ∷ s))) (λ (st′ : Standing). readFrom st′ (i + 1) bs) (readFrom outside j (0xF0 ∷ s)) (before-start bs s (i + 1) j (omega arith))
-    ∙ ap (λ (c : Contents). followedBy c (readFrom outside j (0xF0 ∷ s))) (sym (read-byte st i b bs))
-
--- the same bytes n places later
-abbrev moved : ℕ → Standing → Standing
-moved n outside = outside
-moved n (inside place) = inside (n + place)
-
-later-byte : (st : Standing) (n i b j : ℕ) → j ≡ n + i → (f g : Standing → Contents) → ((st′ : Standing) → f (moved n st′) ≡ later n (g st′))
-    → byte (moved n st) j b f ≡ later n (byte st i b g)
-later-byte outside n i b j e f g l = go (eqb b 0xF0)
-  where
-    go : (t : Bool) → cond t (f (inside (j + 1))) (f outside) ≡ later n (cond t (g (inside (i + 1))) (g outside))
-    go true = let s : j + 1 ≡ n + (i + 1) = omega arith in ap (λ (k : ℕ). f (inside k)) s ∙ l (inside (i + 1))
-    go false = l outside
-later-byte (inside place) n i b j e f g l = go (leb b 0x7F) (eqb b 0xF7) (eqb b 0xF0)
-  where
-    go : (t u v : Bool)
-        → cond t (f (inside (n + place))) (cond u (withBody (n + place) (j - (n + place)) (f outside)) (cond v (withTorn (f (inside (j + 1)))) (withTorn (f outside))))
-        ≡ later n (cond t (g (inside place)) (cond u (withBody place (i - place) (g outside)) (cond v (withTorn (g (inside (i + 1)))) (withTorn (g outside)))))
-    go true u v = l (inside place)
-    go false true v = let d : j - (n + place) ≡ i - place = omega arith in rw d (ap (withBody (n + place) (i - place)) (l outside))
-    go false false true = let s : j + 1 ≡ n + (i + 1) = omega arith in ap withTorn (ap (λ (k : ℕ). f (inside k)) s ∙ l (inside (i + 1)))
-    go false false false = ap withTorn (l outside)
-
-read-later : (s : List ℕ) (n i j : ℕ) → j ≡ n + i → (st : Standing) → readFrom (moved n st) j s ≡ later n (readFrom st i s)
-unfolding readFrom
-read-later [] n i j e outside = refl
-read-later [] n i j e (inside place) = refl
-read-later (b ∷ bs) n i j e st =
-    read-byte (moved n st) j b bs
-    ∙ later-byte st n i b j e (λ (st′ : Standing). readFrom st′ (j + 1) bs) (λ (st′ : Standing). readFrom st′ (i + 1) bs) (read-later bs n (i + 1) (j + 1) (omega arith))
-    ∙ ap (later n) (sym (read-byte st i b bs))
-
-pub independence : (p s : List ℕ) → readFile (p ++ (0xF0 ∷ s)) ≡ followedBy (readFile p) (later (length p) (readFile (0xF0 ∷ s)))
-independence p s =
-    before-start p s 0 (length p) (omega arith) outside
-    ∙ ap (followedBy (readFile p)) (read-later (0xF0 ∷ s) (length p) 0 (length p) (omega arith) outside)
+use Rattle.seven_bit.proofs.SevenBitLaws.{seven-bit-cons}
+use Rattle.syx.specs.Syx.{Body, Contents, withBody, withTorn, Standing, outside, inside, byte, readFrom, readFile}
+use Rattle.syx.specs.Messages.{followedBy, later, Stands, Ascending, done, next, starts}
+use Rattle.syx.proofs.Independence.{independence}
+use Rattle.syx.proofs.RoundTrip.{message-first}
 
 -- ---- every F0 begins a message that is listed or torn
 abbrev open? : Standing → ℕ
@@ -131,7 +49,7 @@ counted-from : (s : List ℕ) (i : ℕ) (st : Standing) → all (readFrom st i s
 unfolding readFrom starts
 counted-from [] i outside = omega arith
 counted-from [] i (inside place) = omega arith
-counted-from (b ∷ bs) i st = ap all (read-byte st i b bs) ∙ counted-byte st i b (starts bs) (λ (st′ : Standing). readFrom st′ (i + 1) bs) (counted-from bs (i + 1))
+counted-from (b ∷ bs) i st = counted-byte st i b (starts bs) (λ (st′ : Standing). readFrom st′ (i + 1) bs) (counted-from bs (i + 1))
 
 pub each-start : (file : List ℕ) → length (readFile file .bodies) + readFile file .torn ≡ starts file
 each-start file = counted-from file 0 outside ∙ zero-add (starts file)
@@ -161,65 +79,19 @@ ascending-from : (s : List ℕ) (i n : ℕ) (st : Standing) → Low n i st → A
 unfolding readFrom
 ascending-from [] i n outside h = done
 ascending-from [] i n (inside place) h = done
-ascending-from (b ∷ bs) i n st h = rw (read-byte st i b bs) (ascending-byte st n i b h (λ (st′ : Standing). readFrom st′ (i + 1) bs) (ascending-from bs (i + 1)))
+ascending-from (b ∷ bs) i n st h = ascending-byte st n i b h (λ (st′ : Standing). readFrom st′ (i + 1) bs) (ascending-from bs (i + 1))
 
 pub ascending : (file : List ℕ) → Ascending 0 (readFile file .bodies)
 ascending file = ascending-from file 0 0 outside (omega arith)
-
--- ---- a body and its F7 behind an F0
-body-read : (m s : List ℕ) (place i j : ℕ) → isSevenBit m ≡ true → j ≡ i + length m
-    → readFrom (inside place) i (m ++ (0xF7 ∷ s)) ≡ withBody place (j - place) (readFrom outside (j + 1) s)
-unfolding readFrom
-body-read [] s place i j h e = let z : j ≡ i = omega arith in rw z
-body-read (b ∷ bs) s place i j h e =
-    let k = seven-bit-split b bs h in
-    rw (le-leb b 127 (k .0)) (body-read bs s place (i + 1) j (k .1) (omega arith))
-
-message-first : (m s : List ℕ) → isSevenBit m ≡ true → readFile (0xF0 ∷ (m ++ (0xF7 ∷ s))) ≡ withBody 1 (length m) (later (length m + 2) (readFile s))
-unfolding readFrom
-message-first m s h =
-    let d : length m + 1 - 1 ≡ length m = omega arith in
-    body-read m s 1 1 (length m + 1) h (omega arith)
-    ∙ rw d
-    (ap (withBody 1 (length m)) (read-later s (length m + 2) 0 (length m + 1 + 1) (omega arith) outside))
-
--- ---- a file written as messages one after the other reads back as them, none torn
-bodies-later : (n : ℕ) (file : List ℕ) (bs : List Body)
-    → map (bodyIn file) (map (λ (b : Body). record { place = n + b .place; len = b .len }) bs) ≡ map (bodyIn (drop n file)) bs
-bodies-later n file [] = refl
-bodies-later n file (b ∷ bs) = rw (drop-drop (b .place) n file) (ap (λ (l : List (List ℕ)). take (b .len) (drop (n + b .place) file) ∷ l) (bodies-later n file bs))
-
-behind-message : (m s : List ℕ) → drop (length m + 2) (0xF0 ∷ (m ++ (0xF7 ∷ s))) ≡ s
-behind-message m s =
-    let n : length m + 2 ≡ suc (length m + 1) = omega arith in
-    ap (λ (k : ℕ). drop k (0xF0 ∷ (m ++ (0xF7 ∷ s)))) n ∙ drop-append-add m (0xF7 ∷ s) 1
-
-read-back-first : (m s : List ℕ) → isSevenBit m ≡ true
-    → map (bodyIn (0xF0 ∷ (m ++ (0xF7 ∷ s)))) (readFile (0xF0 ∷ (m ++ (0xF7 ∷ s))) .bodies) ≡ m ∷ map (bodyIn s) (readFile s .bodies)
-read-back-first m s h =
-    ap (λ (c : Contents). map (bodyIn (0xF0 ∷ (m ++ (0xF7 ∷ s)))) (c .bodies)) (message-first m s h)
-    ∙ ap (λ (x : List ℕ). x ∷ map (bodyIn (0xF0 ∷ (m ++ (0xF7 ∷ s)))) (later (length m + 2) (readFile s) .bodies)) (take-at m (0xF7 ∷ s) (length m) refl)
-    ∙ ap (λ (l : List (List ℕ)). m ∷ l) (bodies-later (length m + 2) (0xF0 ∷ (m ++ (0xF7 ∷ s))) (readFile s .bodies))
-    ∙ rw (behind-message m s)
-
-pub reads-back : (messages : List (List ℕ)) → SevenBit messages → ReadsBack messages
-unfolding fileOf readFrom
-reads-back [] none = record { them = refl; none-torn = refl }
-reads-back (m ∷ ms) (one h hs) =
-    let below = reads-back ms hs in
-    record {
-      them = read-back-first m (fileOf ms) h ∙ ap (λ (l : List (List ℕ)). m ∷ l) (below .them);
-      none-torn = ap (λ (c : Contents). c .torn) (message-first m (fileOf ms) h) ∙ below .none-torn;
-    }
 
 -- ---- what stands in the file is listed
 pub stands-listed : (file : List ℕ) (place len : ℕ) → Stands file place len → List·Memᴰ (record { place = place; len = len }) (readFile file .bodies)
 stands-listed file place len st =
     let p : place ≡ length (st .before) + 1 = st .place-is in
     let r : readFile file ≡ followedBy (readFile (st .before)) (later (length (st .before)) (withBody 1 (length (st .body)) (later (length (st .body) + 2) (readFile (st .behind))))) =
-        ap readFile (st .file-is)
-        ∙ independence (st .before) (st .body ++ (0xF7 ∷ st .behind))
-        ∙ ap (λ (c : Contents). followedBy (readFile (st .before)) (later (length (st .before)) c)) (message-first (st .body) (st .behind) (st .seven-bit)) in
+    ap readFile (st .file-is)
+    ∙ independence (st .before) (st .body ++ (0xF7 ∷ st .behind))
+    ∙ ap (λ (c : Contents). followedBy (readFile (st .before)) (later (length (st .before)) c)) (message-first (st .body) (st .behind) (st .seven-bit)) in
     rw r (Memᴰ·append-right (readFile (st .before) .bodies) (List·Memᴰ·head (same p (st .len-is))))
   where
     same : {p q l m : ℕ} → p ≡ q → l ≡ m → _≡_ {A = Body} (record { place = p; len = l }) (record { place = q; len = m })
@@ -339,7 +211,7 @@ listed-from : (s : List ℕ) (i : ℕ) (b : Body) (st : Standing) → Low 0 i st
 unfolding readFrom
 listed-from [] i b outside h m = absurd (List·Memᴰ·not-nil m)
 listed-from [] i b (inside place) h m = absurd (List·Memᴰ·not-nil m)
-listed-from (x ∷ s) i b st h m = listed-byte st i x s b h (λ (st′ : Standing). readFrom st′ (i + 1) s) (listed-from s (i + 1) b) (rw (read-byte st i x s) at m)
+listed-from (x ∷ s) i b st h m = listed-byte st i x s b h (λ (st′ : Standing). readFrom st′ (i + 1) s) (listed-from s (i + 1) b) m
 
 pub listed-stands : (file : List ℕ) (b : Body) → List·Memᴰ b (readFile file .bodies) → Stands file (b .place) (b .len)
 listed-stands file b m =
