@@ -7,11 +7,11 @@ use mathlib.Core.Path.{_≡_, refl, sym, ap, _∙_}
 use native.Mathlib.Nat.{add-zero}
 use native.Mathlib.Numerals.{add-one}
 use native.Mathlib.Omega.{arith}
-use borrow.Author.Tests.{le-leb, lt-leb, leb-true, leb-false, le-ltb, lt-ltb, eqb-true, eqb-false, ne-eqb}
-use lib.Dec.{leb, ltb, eqb}
+use borrow.Author.Tests.{leb-true, leb-false, le-ltb, lt-ltb, eqb-true, ne-eqb}
+use lib.Dec.{leb, eqb}
 use lib.ListN.{length, getD, drop, length-drop}
 use lib.Seq.{drop-cons, drop-drop, getD-drop}
-use Rattle.syx.specs.Syx.{Contents, withBody, withTorn, Standing, outside, inside, readFrom}
+use Rattle.syx.specs.Syx.{withBody, withTorn, outside, inside, readFrom}
 use Rattle.syx.specs.Scan.{stops, stopLen}
 use Rattle.syx.proofs.ScanLaws.{stop-there, stop-passed}
 

@@ -1,6 +1,7 @@
--- What is listed: each message that stands in the file, and nothing else, one behind the other; every F0 begins one that is listed or torn.
+-- What is listed: each message that stands in the file, and nothing else, one behind the other; every F0 begins one that is listed or torn, and
+-- a file of n bytes has at most n / 2.
 -- Assumes nothing.
-use Prim.Native.Nat.{ℕ, suc, _+_, _-_, _≤_, _<_}
+use Prim.Native.Nat.{ℕ, suc, _+_, _-_, _*_, _≤_, _<_}
 use mathlib.Core.Bool.{Bool, true, false, cond}
 use mathlib.Core.List.{List, [], _∷_, _++_, List·Memᴰ, List·Memᴰ·head, List·Memᴰ·not-nil, List·Memᴰ·cases-cons, Memᴰ·append-right}
 use mathlib.Core.Logic.{_⊎_, inl, inr}
@@ -53,6 +54,33 @@ counted-from (b ∷ bs) i st = counted-byte st i b (starts bs) (λ (st′ : Stan
 
 pub each-start : (file : List ℕ) → length (readFile file .bodies) + readFile file .torn ≡ starts file
 each-start file = counted-from file 0 outside ∙ zero-add (starts file)
+
+-- ---- a message takes two bytes or more
+halved-byte : (st : Standing) (i b n : ℕ) (f : Standing → Contents) → ((st′ : Standing) → 2 * length (f st′ .bodies) ≤ open? st′ + n)
+    → 2 * length (byte st i b f .bodies) ≤ open? st + suc n
+halved-byte outside i b n f e = go (eqb b 0xF0) (e outside) (e (inside (i + 1)))
+  where
+    go : (t : Bool) → 2 * length (f outside .bodies) ≤ 0 + n → 2 * length (f (inside (i + 1)) .bodies) ≤ 1 + n
+        → 2 * length (cond t (f (inside (i + 1))) (f outside) .bodies) ≤ 0 + suc n
+    go true o s = omega arith
+    go false o s = omega arith
+halved-byte (inside place) i b n f e = go (leb b 0x7F) (eqb b 0xF7) (eqb b 0xF0) (e outside) (e (inside place)) (e (inside (i + 1)))
+  where
+    go : (t u v : Bool) → 2 * length (f outside .bodies) ≤ 0 + n → 2 * length (f (inside place) .bodies) ≤ 1 + n → 2 * length (f (inside (i + 1)) .bodies) ≤ 1 + n
+        → 2 * length (cond t (f (inside place)) (cond u (withBody place (i - place) (f outside)) (cond v (withTorn (f (inside (i + 1)))) (withTorn (f outside)))) .bodies) ≤ 1 + suc n
+    go true u v o s s′ = omega arith
+    go false true v o s s′ = omega arith
+    go false false true o s s′ = omega arith
+    go false false false o s s′ = omega arith
+
+halved-from : (s : List ℕ) (i : ℕ) (st : Standing) → 2 * length (readFrom st i s .bodies) ≤ open? st + length s
+unfolding readFrom
+halved-from [] i outside = omega arith
+halved-from [] i (inside place) = omega arith
+halved-from (b ∷ bs) i st = halved-byte st i b (length bs) (λ (st′ : Standing). readFrom st′ (i + 1) bs) (halved-from bs (i + 1))
+
+pub at-most-half : (file : List ℕ) → 2 * length (readFile file .bodies) ≤ length file
+at-most-half file = let h = halved-from file 0 outside in omega arith
 
 -- ---- bodies stand one behind the other
 abbrev Low : ℕ → ℕ → Standing → Type 0

@@ -3,15 +3,13 @@ mod scan;
 
 use crate::scan::find_start;
 use crate::scan::find_status;
+use crate::scan::is_end;
 ghost use mathlib.Core.Path.{_≡_};
 ghost use Prim.Native.Nat.{_≤_, _<_};
-ghost use lib.Dec.{eqb};
-ghost use lib.ListN.{length, getD, drop};
+ghost use lib.ListN.{length, drop};
 ghost use Rattle.syx.specs.Syx.{outside, readFrom, readFile};
 ghost use Rattle.syx.specs.Listing.{syxNumber, listedTold, listing, listCall};
 ghost use Rattle.syx.specs.Walk.{stored, walked, walkedOn};
-
-const SYSEX_END: u8 = 0xF7;
 
 pub enum SyxError {
     // A lent column has fewer places than the file has messages.
@@ -42,16 +40,6 @@ struct Tally {
     torn: usize,
 }
 
-// Is the byte at a place F7?
-fn is_end(file: &[u8], at: usize) -> bool
-    ensures { λ r. ⌜ r ≡ eqb (getD (now (file .entry)) at 0) 0xF7 ⌝ }
-{
-    if file.len() <= at {
-        return false;
-    }
-    file[at] == SYSEX_END
-}
-
 // Puts a value at place k of a column, where k is below the room.
 fn store(column: &mut [u64], room: usize, k: usize, value: u64)
     requires { ⌜ room ≤ length (now column) ⌝ }
@@ -64,7 +52,13 @@ fn store(column: &mut [u64], room: usize, k: usize, value: u64)
 }
 
 // The next message from the tally's place on, counted, and stored where there is room.
-fn step(file: &[u8], tally: Tally, room: usize, places: &mut [u64], lengths: &mut [u64]) -> Tally
+fn next_message(
+    file: &[u8],
+    tally: Tally,
+    room: usize,
+    places: &mut [u64],
+    lengths: &mut [u64],
+) -> Tally
     requires { ⌜ (tally .from < length (now file)) × (tally .messages ≤ tally .from) × (tally .torn ≤ tally .from) ⌝ }
     requires { ⌜ (room ≤ length (now places)) × (room ≤ length (now lengths)) ⌝ }
     ensures { λ r. ⌜ (tally .from < r .from) × (r .from ≤ length (now (file .entry))) × (r .messages ≤ r .from) × (r .torn ≤ r .from) ⌝ }
@@ -112,12 +106,12 @@ fn walk(file: &[u8], room: usize, places: &mut [u64], lengths: &mut [u64]) -> Ta
         torn: 0,
     };
     while tally.from < file.len() {
-        tally = step(file, tally, room, places, lengths);
+        tally = next_message(file, tally, room, places, lengths);
     }
     tally
 }
 
-// Lists where each message's body begins, behind its F0, and how many bytes it has, up to its F7. Without room the messages are only counted.
+// Lists where each message's body begins, behind its F0, and how many bytes it has, up to its F7. The first walk has no room, and counts.
 pub fn list(file: &[u8], places: &mut [u64], lengths: &mut [u64]) -> Listed
     ensures { λ r. ⌜ listing (listedTold r) (now (places .exit)) (now (lengths .exit))
         ≡ listCall (now (file .entry)) (now (places .entry)) (now (lengths .entry)) ⌝ }

@@ -2,12 +2,15 @@
 ghost use mathlib.Core.Bool.{true, false};
 ghost use mathlib.Core.Path.{_≡_};
 ghost use Prim.Native.Nat.{_+_, _≤_, _<_};
-ghost use lib.ListN.{length, drop};
+ghost use lib.Dec.{eqb};
+ghost use lib.ListN.{length, getD, drop};
 ghost use Rattle.syx.specs.Scan.{hasStop, stopLen};
 
-pub(crate) const SYSEX_START: u8 = 0xF0;
-
 const DATA_MAX: u8 = 0x7F;
+
+const SYSEX_START: u8 = 0xF0;
+
+const SYSEX_END: u8 = 0xF7;
 
 // Blocks of so many bytes are passed at once.
 const LONG_BLOCK: usize = 64;
@@ -62,4 +65,14 @@ pub(crate) fn find_status(file: &[u8], from: usize) -> usize
     let near = skip(file, from, true, LONG_BLOCK);
     let nearer = skip(file, near, true, SHORT_BLOCK);
     skip(file, nearer, true, 1)
+}
+
+// Is the byte at a place F7?
+pub(crate) fn is_end(file: &[u8], at: usize) -> bool
+    ensures { λ r. ⌜ r ≡ eqb (getD (now (file .entry)) at 0) 0xF7 ⌝ }
+{
+    if file.len() <= at {
+        return false;
+    }
+    file[at] == SYSEX_END
 }
