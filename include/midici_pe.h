@@ -3,7 +3,7 @@
  *
  * Words. A peer is a device, named by its MUID, a number of 28 bits. A list is the header and the body of one exchange.
  * A chunk is one piece of a list. A message is a CI header of 13 bytes with a chunk behind it, without F0 and F7. In a file
- * a message is whatever stands between F0 and F7 (see Files).
+ * a message is any run of bytes up to 7F between F0 and F7 (see Files).
  *
  * Memory. The library allocates nothing, keeps no pointer after a call and has no state of its own. All memory is yours
  * and is lent for the time of a call. It has no I/O, takes no locks and never ends the program. The one function that it
@@ -14,9 +14,8 @@
  *
  * Answers. midici_pe_answer, midici_pe_fed, midici_pe_stats and midici_pe_syx begin with `refusal`: 0, or the number that
  * says why the call was turned down (enum midici_pe_refusal). With a refusal every other field is 0, except `value` with
- * number 24.
- * Unless a call says otherwise, a refused call leaves all lent memory as it was. midici_pe_request_id has no refusal.
- * Compare fields, not the bytes of the structs: there is padding between fields.
+ * number 24. Unless a call says otherwise, a refused call leaves all lent memory as it was. midici_pe_request_id has no
+ * refusal. Compare fields, not the bytes of the structs: there is padding between fields.
  *
  * Time. Every call returns, whatever its arguments. Its time grows with the bytes that it is given, a file's among them,
  * and the chunks that the list holds, with one exception: a list whose chunk numbers have a gap above its count is joined,
@@ -283,7 +282,7 @@ midici_pe_answer midici_pe_reserved_bytes(midici_pe_shape shape);
  * is F0, a body of bytes up to 7F (it may be empty), and F7. Message i, counted from 0, is told at element i of the two
  * outputs: places[i] is how many bytes of the file stand before its body, its F0 the last of them, and lengths[i] how many
  * bytes the body has, F0 and F7 not counted. So `file + places[i]` and `lengths[i]` are just what midici_pe_feed_message
- * takes; a body that is none of its messages it refuses.
+ * takes, which refuses a body that is no CI message with a chunk.
  *   - A message that meets the file's end, or a byte above 7F other than F7 (also a real-time byte, F8 to FF), is torn: it
  *     is counted in `torn`, and not listed. If that byte is F0, the next message starts there.
  *   - Bytes outside of messages are dropped: those before the first F0, and those from the end of a message, whole or
