@@ -3,4 +3,5 @@ pub mod answer;
 pub mod chunks;
 pub mod controller;
 pub mod files;
+pub mod header;
 pub mod table;

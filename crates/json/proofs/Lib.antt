@@ -1,0 +1,16 @@
+pub mod Branches
+pub mod Follows
+pub mod Every
+pub mod TableRule
+pub mod Accepts
+pub mod StateLaws
+pub mod RunLaws
+pub mod ParseText
+pub mod ParseTold
+pub mod Sets
+pub mod TreeMatches
+pub mod MatchesTree
+pub mod Moves
+pub mod WalkLaws
+pub mod TreeWalk
+pub mod TextLaws

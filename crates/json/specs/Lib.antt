@@ -1,0 +1,5 @@
+pub mod Abnf
+pub mod Grammar
+pub mod Table
+pub mod Tree
+pub mod Parse

@@ -1,0 +1,11 @@
+pub mod UnitLaws
+pub mod NameLaws
+pub mod PrintLaws
+pub mod EntryLaws
+pub mod TwiceLaws
+pub mod ValueLaws
+pub mod NumberLaws
+pub mod MemberLaws
+pub mod FindLaws
+pub mod Examples
+pub mod WhatIsFound

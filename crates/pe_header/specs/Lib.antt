@@ -1,0 +1,4 @@
+pub mod Find
+pub mod Entries
+pub mod Names
+pub mod Members
