@@ -36,6 +36,8 @@ compare:
 	@.ci/values "the comparison" SEED CASES RUNS
 	@oracle/at-hand
 	@.ci/alone oracle/run compare $(SEED) $(CASES) $(RUNS)
+	@$(MAKE) -s target/c/answers
+	@c/test/json/run $(SEED) $(CASES) 5
 
 bench:
 	@oracle/at-hand Cannot-run "the benchmarks"
@@ -81,12 +83,13 @@ test-c:
 	@c/at-hand Cannot-run "the C tests"
 	@$(MAKE) -s tested-c
 
-tested-c: target/c/readme target/c/exports target/c/week target/c/bodies
+tested-c: target/c/readme target/c/exports target/c/week target/c/bodies target/c/answers
 	@c/test/header
 	@target/c/exports
 	@target/c/week >target/c/week.log || { cat target/c/week.log; exit 1; }
 	@echo "The demo ends as it should."
 	@c/test/syx/run
+	@c/test/json/run "$(SEED)" 20000 3
 	@if c/test/sanitizers; then $(MAKE) -s sanitized-c; fi
 	@c/sizes >target/c/sizes.log || { cat target/c/sizes.log; exit 1; }
 	@echo "No call takes more stack than the header says, and memset is all that has to be supplied."
@@ -123,6 +126,9 @@ target/c/exports_sanitized: $(TESTS) $(HEADERS) $(LIBRARY) target/c/compiler
 
 target/c/bodies: c/test/syx/bodies.c include/midici_pe.h $(LIBRARY) target/c/compiler
 	@$(C99) c/test/syx/bodies.c $(LIBRARY) $(LDFLAGS) -o $@
+
+target/c/answers: c/test/json/answers.c include/midici_pe.h $(LIBRARY) target/c/compiler
+	@$(C99) c/test/json/answers.c $(LIBRARY) $(LDFLAGS) -o $@
 
 target/c/readme: README.md include/midici_pe.h $(LIBRARY) target/c/compiler
 	@sed -n '/^```c$$/,/^```$$/{/^```/!p}' README.md >target/c/readme.c

@@ -132,5 +132,6 @@ midici_pe_answer model_encode_message(uint8_t sub_id2, uint32_t source, uint32_t
                                       const struct lent *header, uint16_t num_chunks, uint16_t chunk_num,
                                       const struct lent *property, struct lent *out);
 midici_pe_syx model_syx_list(const struct lent *file, struct lent *places, struct lent *lengths);
+midici_pe_found model_header_find(const struct lent *header, const struct lent *name);
 
 #endif

@@ -1,5 +1,5 @@
-/* MIDI-CI Property Exchange: cut a header and a body into chunks, write messages, join what arrives, and find the messages
- * of a .syx file.
+/* MIDI-CI Property Exchange: cut a header and a body into chunks, write messages, join what arrives, find the messages of a
+ * .syx file, and find a value in a header.
  *
  * Words. A peer is a device, named by its MUID, a number of 28 bits. A list is the header and the body of one exchange.
  * A chunk is one piece of a list. A message is a CI header of 13 bytes with a chunk behind it, without F0 and F7. In a file
@@ -12,14 +12,16 @@
  * Slices. A slice is a pointer and a length; the length counts elements, not bytes. A pointer may be NULL where the length
  * is 0. A call writes within the slices that are not const, and nowhere else.
  *
- * Answers. midici_pe_answer, midici_pe_fed, midici_pe_stats and midici_pe_syx begin with `refusal`: 0, or the number that
- * says why the call was turned down (enum midici_pe_refusal). With a refusal every other field is 0, except `value` with
- * number 24. Unless a call says otherwise, a refused call leaves all lent memory as it was. midici_pe_request_id has no
- * refusal. Compare fields, not the bytes of the structs: there is padding between fields.
+ * Answers. midici_pe_answer, midici_pe_fed, midici_pe_stats, midici_pe_syx and midici_pe_found begin with `refusal`: 0, or
+ * the number that says why the call was turned down (enum midici_pe_refusal). With a refusal every other field is 0, except
+ * `value` with number 24. Unless a call says otherwise, a refused call leaves all lent memory as it was.
+ * midici_pe_request_id has no refusal. Compare fields, not the bytes of the structs: there is padding between fields.
  *
  * Time. Every call returns, whatever its arguments. Its time grows with the bytes that it is given, a file's among them,
- * and the chunks that the list holds, with one exception: a list whose chunk numbers have a gap above its count is joined,
- * once, in time by the square of its chunks, some two million steps for 2,048 of them.
+ * and the chunks that the list holds, with two exceptions. A list whose chunk numbers have a gap above its count is joined,
+ * once, in time by the square of its chunks, some two million steps for 2,048 of them. Finding a value in a header takes
+ * time that grows with the header, with the given name, and with the square of the number of names in the header, of which
+ * there are at most 819.
  *
  * Trust. What is said here of answers and memory is proved of calls that keep four rules, and a call cannot see whether
  * they are kept:
@@ -40,7 +42,7 @@
 #include <stdint.h>
 
 #define MIDICI_PE_VERSION_MAJOR 0
-#define MIDICI_PE_VERSION_MINOR 3
+#define MIDICI_PE_VERSION_MINOR 4
 #define MIDICI_PE_VERSION_PATCH 0
 
 /* More stack than any call takes (make sizes measures each). */
@@ -77,7 +79,11 @@ enum midici_pe_refusal {
     MIDICI_PE_BAD_SHAPE = 30,              /* the shape is out of range, or a lent slice is too short for it */
     MIDICI_PE_DAMAGED_SLOT = 31,           /* the table's memory holds what no call on it leaves there (see Receiving) */
 
-    MIDICI_PE_SYX_TOO_MANY_MESSAGES = 32   /* a file has more messages than `places` or `lengths` can hold */
+    MIDICI_PE_SYX_TOO_MANY_MESSAGES = 32,  /* a file has more messages than `places` or `lengths` can hold */
+
+    MIDICI_PE_JSON_HEADER_TOO_LONG = 33,   /* a header that is to be read has more than 4,096 bytes */
+    MIDICI_PE_JSON_NOT_FLAT_OBJECT = 34,   /* it is no flat JSON object of the kind that is read (see Headers) */
+    MIDICI_PE_JSON_NAME_TWICE = 35         /* a name stands in it twice */
 };
 
 /* What most calls answer. `value` is the kind of message with refusal 24, else 0. What `count` counts is said at each call;
@@ -113,6 +119,24 @@ typedef struct midici_pe_syx {
     uint64_t messages;
     uint64_t torn;
 } midici_pe_syx;
+
+/* What a value in a header is. */
+enum midici_pe_kind {
+    MIDICI_PE_ABSENT = 0, /* the name has no value there */
+    MIDICI_PE_STRING = 1,
+    MIDICI_PE_NUMBER = 2,
+    MIDICI_PE_TRUE = 3,
+    MIDICI_PE_FALSE = 4,
+    MIDICI_PE_NULL = 5
+};
+
+/* What finding a value in a header answers: its kind (enum midici_pe_kind), and where its bytes are in the header. */
+typedef struct midici_pe_found {
+    uint8_t refusal;
+    uint8_t kind;
+    uint64_t place;
+    uint64_t length;
+} midici_pe_found;
 
 /* A request id, and the counter after it. */
 typedef struct midici_pe_request_id {
@@ -294,6 +318,25 @@ midici_pe_answer midici_pe_reserved_bytes(midici_pe_shape shape);
  * does not tell how many there are. */
 midici_pe_syx midici_pe_syx_list(const uint8_t *file, size_t file_len, uint64_t *places, size_t places_len,
                                  uint64_t *lengths, size_t lengths_len);
+
+/* ---- Headers ---- */
+
+/* Finds the value that a header has for a name; that of the name `resource` says which resource a list belongs to. The
+ * header, of at most 4,096 bytes, is read as one flat JSON object (RFC 8259): any number of names, each with a value. A
+ * name is a string with JSON's escapes. A value is such a string, a whole number from 0 to 65,535 without leading zeros,
+ * true, false or null. JSON's white space (20, 09, 0A and 0D) may stand around the object, and around each part of it.
+ *   - Where the header has the name, `kind` is its value's kind, and the value is the `length` bytes from `header + place`
+ *     on, as the header has them: a string without its quotes (it may be empty), its escapes left as they stand.
+ *   - Where it has not, `kind` is MIDICI_PE_ABSENT, and `place` and `length` are 0.
+ *   - The header's names are compared as 16-bit units, escapes resolved: "\u0061b" is the name ab. Each \u escape is one
+ *     unit, so a surrogate pair is two. Each byte of the given name is a unit as it stands, a backslash too.
+ *   - A given name with a byte above 7F is absent, whatever escapes the header has: \u00E9 is not found with the byte E9.
+ * Nothing is written.
+ * Refusals, in this order, whatever the given name is: 33 the header has more than 4,096 bytes; 34 it is no such object,
+ * because of an array or another object as a value, a minus sign, a fraction, an exponent, a number above 65,535, a byte
+ * below 20 in a string (7F may stand there), a byte above 7F anywhere, or anything else; 35 a name stands in it twice,
+ * escapes resolved. */
+midici_pe_found midici_pe_header_find(const uint8_t *header, size_t header_len, const uint8_t *name, size_t name_len);
 
 #ifdef __cplusplus
 }

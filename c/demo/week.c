@@ -2,9 +2,10 @@
  *
  * A mixer sends its scene list to a hub, in chunks, by two cables. Both ends are played here: the mixer's side cuts the
  * list and writes the messages, the hub's side feeds what arrives and puts the list together. At the weekend the same list
- * comes once more, as a .syx file, whose messages the hub finds and feeds. Each step is printed, with the bytes that
- * travel. What arrived is compared with what was sent, both times: the exit status is 0 if it is the same, 1 if it is not
- * or if a call answered something else than the step expects. */
+ * comes once more, as a .syx file, whose messages the hub finds and feeds. Of each list that is whole, the hub's staff see
+ * the resource, which its header names. Each step is printed, with the bytes that travel. What arrived is compared with
+ * what was sent, both times: the exit status is 0 if it is the same, 1 if it is not or if a call answered something else
+ * than the step expects. */
 #include "midici_pe.h"
 
 #include <inttypes.h>
@@ -50,6 +51,7 @@ static uint8_t arenas[MIDICI_PE_ARENAS_LEN(PEERS, TX_BYTES)];
 struct list {
     uint32_t sender;
     uint8_t request_id;
+    const char *resource; /* the one that the header names */
     size_t header_len, body_len;
     uint8_t header[LIST_HEADER_LEN], body[LIST_BODY_LEN];
 };
@@ -191,6 +193,7 @@ static void fill_scene_list(struct list *list, uint8_t request_id)
     char line[LINE + 1];
     list->sender = MIXER;
     list->request_id = request_id;
+    list->resource = "SceneList";
     list->header_len = LIST_HEADER_LEN;
     list->body_len = LIST_BODY_LEN;
     must(strlen(header) == LIST_HEADER_LEN, "the header has 48 bytes");
@@ -205,7 +208,7 @@ static void fill_scene_list(struct list *list, uint8_t request_id)
 /* A shorter list of two chunks. */
 static struct list other_list(uint32_t sender, uint8_t request_id)
 {
-    struct list list = {.sender = sender, .request_id = request_id, .header_len = 20, .body_len = 300};
+    struct list list = {.sender = sender, .request_id = request_id, .resource = "State", .header_len = 20, .body_len = 300};
     memcpy(list.header, "{\"resource\":\"State\"}", list.header_len);
     memset(list.body, name_of(sender)[0], list.body_len);
     return list;
@@ -327,9 +330,24 @@ static void expect_refused(midici_pe_fed answer, uint8_t refusal)
     must(answer.refusal == refusal, "the chunk is refused");
 }
 
-static void expect_whole(midici_pe_fed answer, const struct list *list)
+/* What the hub's staff see of a list that has arrived: its resource, as the header has it. */
+static void show_resource(const struct received *received, const char *expected)
+{
+    const char *name = "resource";
+    midici_pe_found found =
+        midici_pe_header_find(received->header, received->header_len, (const uint8_t *)name, strlen(name));
+    must(found.refusal == MIDICI_PE_OK && found.kind == MIDICI_PE_STRING, "the header names a resource");
+    const uint8_t *resource = received->header + found.place;
+    printf("      Its resource is %.*s: a string of %" PRIu64 " bytes, at place %" PRIu64 " of the header.\n",
+           (int)found.length, (const char *)resource, found.length, found.place);
+    must(found.length == strlen(expected) && memcmp(resource, expected, strlen(expected)) == 0,
+         "it is the list's resource");
+}
+
+static void expect_whole(midici_pe_fed answer, const struct list *list, const struct received *received)
 {
     must(answer.whole && answer.header_len == list->header_len && answer.body_len == list->body_len, "the list is whole");
+    show_resource(received, list->resource);
 }
 
 static void print_totals(uint64_t expected_open)
@@ -463,9 +481,9 @@ static void thursday(const struct list *list, struct received *received, struct 
     printf("      Just in time: nobody has been silent for so long.\n");
     cancel_and_drop(list->request_id);
     expect_waiting(send_chunk('A', list, 2, day + MIDICI_PE_TIMEOUT_MS, received));
-    expect_whole(send_chunk('B', &lights, 2, day + 3010, scratch), &lights);
+    expect_whole(send_chunk('B', &lights, 2, day + 3010, scratch), &lights, scratch);
     print_open_lists(1);
-    expect_whole(send_chunk('B', list, 4, day + 3020, received), list);
+    expect_whole(send_chunk('B', list, 4, day + 3020, received), list, received);
     print_totals(0);
 }
 
@@ -570,7 +588,7 @@ static bool sunday(const struct list *list, const struct file *file, struct rece
     must(found.refusal == MIDICI_PE_OK && found.messages == CHUNKS && found.torn == 1, "five are found, and one is torn");
     for (int i = 0; i < CHUNKS - 1; i++)
         expect_waiting(feed_found(file, places[i], lengths[i], received));
-    expect_whole(feed_found(file, places[CHUNKS - 1], lengths[CHUNKS - 1], received), list);
+    expect_whole(feed_found(file, places[CHUNKS - 1], lengths[CHUNKS - 1], received), list, received);
     print_totals(0);
     return same_list(list, received);
 }
@@ -583,11 +601,11 @@ static void print_words(void)
     puts("does so as the requirement says, stays within the memory that it was lent and always answers is");
     puts("proved for every input; this program calls it for one week, in which a mixer sends a scene list,");
     puts("and the same list comes as a file.\n");
-    puts("A peer is a device that sends to the hub. A list is a header and a body. It travels in chunks,");
-    puts("each in a message of its own, and a table in the hub's memory puts the chunks together again.");
-    puts("A request number says which list of a peer a chunk belongs to. A .syx file holds messages, one");
-    puts("after another, each from F0 to F7. Bytes are hexadecimal, other numbers decimal; in text a line's");
-    puts("end is a slash. Times are counted from the day's first chunk.");
+    puts("A peer is a device that sends to the hub. A list is a header, which names the list's resource, and");
+    puts("a body. It travels in chunks, each in a message of its own, and a table in the hub's memory puts the");
+    puts("chunks together again. A request number says which list of a peer a chunk belongs to. A .syx file");
+    puts("holds messages, one after another, each from F0 to F7. Bytes are hexadecimal, other numbers decimal;");
+    puts("in text a line's end is a slash. Times are counted from the day's first chunk.");
 }
 
 int main(void)

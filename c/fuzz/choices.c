@@ -221,6 +221,14 @@ static void add_u14(struct lent *bytes, size_t *len, size_t number)
     add_byte(bytes, len, (unsigned)(number / 128));
 }
 
+/* Cuts a slice to the first `len` bytes, and keeps them. */
+static void cut_to(struct lent *bytes, size_t len)
+{
+    memmove(bytes->at + bytes->len - len, bytes->at, len);
+    lent_resize_or_null(bytes, len);
+    lent_keep(bytes);
+}
+
 void choose_chunk(struct input *input, const struct table *table, struct lent *bytes, size_t before)
 {
     const unsigned numbers[8] = {1, 2, 3, 1, 2, 3, 4, 0}, counts[8] = {2, 3, 2, 3, 2, 3, 1, 0};
@@ -302,9 +310,7 @@ void choose_file(struct input *input, struct lending *lending)
     lent_resize(file, SMALL * 4);
     for (size_t i = 0; i < pieces && input->left > 0; i++)
         add_piece(input, file, &len);
-    memmove(file->at + file->len - len, file->at, len);
-    lent_resize_or_null(file, len);
-    lent_keep(file);
+    cut_to(file, len);
     for (size_t i = 0; i < len; i++)
         messages += file->at[i] == 0xF7;
     lent_resize_or_null(&lending->places, take_column(input, messages));
@@ -313,4 +319,136 @@ void choose_file(struct input *input, struct lending *lending)
     lent_fill(&lending->lengths);
     lent_keep(&lending->places);
     lent_keep(&lending->lengths);
+}
+
+/* ---- A header to be read ---- */
+
+static void add_text(struct lent *bytes, size_t *len, const char *text)
+{
+    while (*text != '\0')
+        add_byte(bytes, len, (uint8_t)*text++);
+}
+
+static const char *take_text(struct input *input, const char *const *texts, size_t count)
+{
+    return texts[take(input) % count];
+}
+
+#define TAKE_TEXT(input, texts) take_text(input, texts, sizeof texts / sizeof texts[0])
+
+/* Between two parts of a header: mostly nothing, else white space, or something that does not belong there. */
+static void add_between(struct input *input, struct lent *header, size_t *len)
+{
+    static const char *const spaces[] = {" ", "\n", "\t", "\r", "  ", " \r\n"};
+    static const char *const odd[] = {"\v", ",", "{",    "}",    "[]", "\"", "-",  ".0", "e1",
+                                      "0",  "1", "\x80", "\x7F", "\\", ":",  "//", "x"};
+    unsigned choice = take(input);
+    if (choice >= 250)
+        add_text(header, len, TAKE_TEXT(input, odd));
+    else if (choice >= 192)
+        add_text(header, len, TAKE_TEXT(input, spaces));
+    else if (choice == 191)
+        for (size_t run = (size_t)take_bits(input, 2) % (SMALL + 8); run > 0; run--)
+            add_byte(header, len, ' ');
+}
+
+/* A string of a few pieces, in one spelling of many. */
+static void add_string(struct input *input, struct lent *header, size_t *len)
+{
+    static const char *const pieces[] = {"a",        "b",       "c",
+                                         "d",        "e",       "f",
+                                         "g",        "h",       "ab",
+                                         "resource", "/",       "\x7F",
+                                         " ",        "\\u0061", "\\u0062",
+                                         "\\u006A",  "\\u006a", "\\/",
+                                         "\\n",      "\\u000A", "\\b\\f\\r\\t",
+                                         "\\\"",     "\\u0022", "\\\\",
+                                         "\\u00E9",  "\\u00e9", "\\uD83D\\uDE00",
+                                         "\\uD83D",  "\\u0161"};
+    unsigned choice = take(input);
+    add_byte(header, len, '"');
+    for (unsigned count = choice % 4; count > 0; count--)
+        add_text(header, len, TAKE_TEXT(input, pieces));
+    if (choice >= 250)
+        add_byte(header, len, take(input));
+    if (choice >= 246 && choice < 250)
+        for (unsigned run = take(input); run > 0; run--)
+            add_byte(header, len, 'a' + run % 2);
+    add_byte(header, len, '"');
+}
+
+static void add_value(struct input *input, struct lent *header, size_t *len)
+{
+    static const char *const values[] = {"0",    "1",     "200",  "65535", "9",     "10",
+                                         "true", "false", "null", "true",  "false", "null"};
+    static const char *const odd[] = {
+        "65536", "00", "-1", "1.5", "1e2", "[]", "{}", "tru", "nulll", "4294967296", "99999999999999999999"};
+    unsigned choice = take(input);
+    if (choice < 96)
+        add_string(input, header, len);
+    else
+        add_text(header, len, choice < 248 ? TAKE_TEXT(input, values) : TAKE_TEXT(input, odd));
+}
+
+static void add_pair(struct input *input, struct lent *header, size_t *len)
+{
+    add_between(input, header, len);
+    add_string(input, header, len);
+    add_between(input, header, len);
+    add_byte(header, len, ':');
+    add_between(input, header, len);
+    add_value(input, header, len);
+    add_between(input, header, len);
+}
+
+/* Adds what stands between one of the first quotes of a header and the next one. */
+static void add_between_quotes(struct input *input, const struct lent *header, struct lent *name, size_t *len)
+{
+    size_t from = 0, quotes = 1 + take(input) % 6;
+    while (quotes > 0 && from < header->len)
+        quotes -= header->at[from++] == '"';
+    while (from < header->len && header->at[from] != '"')
+        add_byte(name, len, header->at[from++]);
+}
+
+/* A name: most often one that the header may have. */
+static void choose_name(struct input *input, const struct lent *header, struct lent *name)
+{
+    static const char *const names[] = {"a", "b",    "",  "ab", "resource", "j",       "\n",   "\b\f\r\t", "\"",      "\\",
+                                        "/", "\x7F", " ", "aa", "ba",       "\\u0061", "\xE9", "a\x80",    "\xC3\xA9"};
+    unsigned choice = take(input);
+    size_t len = 0;
+    if (choice >= 240) {
+        choose_bytes(input, name);
+        lent_keep(name);
+        return;
+    }
+    lent_resize(name, SMALL);
+    if (choice < 128)
+        add_between_quotes(input, header, name, &len);
+    else
+        add_text(name, &len, TAKE_TEXT(input, names));
+    cut_to(name, len);
+}
+
+void choose_header(struct input *input, struct lending *lending)
+{
+    struct lent *header = &lending->header;
+    unsigned choice = take(input);
+    size_t pairs = choice < 16 ? 0 : choice < 224 ? 1 + choice % 5 : choice % 32, len = 0;
+    lent_resize(header, 20000);
+    add_between(input, header, &len);
+    add_byte(header, &len, '{');
+    for (size_t i = 0; i < pairs && (i == 0 || input->left > 0); i++) {
+        if (i > 0)
+            add_byte(header, &len, ',');
+        add_pair(input, header, &len);
+    }
+    add_between(input, header, &len);
+    add_byte(header, &len, '}');
+    add_between(input, header, &len);
+    if (choice >= 248)
+        put_any(input, header->at, len);
+    cut_to(header, len);
+    choose_name(input, header, &lending->body);
 }

@@ -185,6 +185,19 @@ static void call_syx_list(struct input *input, struct lending *lending)
     must(lent_same_from(places, 0) && lent_same_from(lengths, 0), "syx_list lists what the model says");
 }
 
+static void call_header_find(struct input *input, struct lending *lending)
+{
+    struct lent *header = &lending->header, *name = &lending->body;
+    choose_header(input, lending);
+    midici_pe_found answer = midici_pe_header_find(header->at, header->len, name->at, name->len);
+    must(lent_same_from(header, 0) && lent_guarded(header), "the header stays");
+    must(lent_same_from(name, 0) && lent_guarded(name), "the name stays");
+    midici_pe_found model = model_header_find(header, name);
+    must(answer.refusal == model.refusal && answer.kind == model.kind && answer.place == model.place &&
+             answer.length == model.length,
+         "header_find");
+}
+
 static void call_alloc(struct input *input)
 {
     uint8_t counter = (uint8_t)take(input);
@@ -229,11 +242,14 @@ static void call_any(struct input *input, struct lending *lending)
         call_syx_list(input, lending);
         break;
     case 5:
+        call_header_find(input, lending);
+        break;
     case 6:
+    case 7:
         call_table(input, lending, call);
         break;
     default:
-        while (call->bytes == NO_BYTES || (choice % 16 > 8 && call->bytes == A_MESSAGE))
+        while (call->bytes == NO_BYTES || (choice % 16 > 9 && call->bytes == A_MESSAGE))
             call = call[1].name != NULL ? call + 1 : calls;
         call_table(input, lending, call);
     }

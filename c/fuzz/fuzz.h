@@ -50,4 +50,7 @@ void choose_list(struct input *input, struct lending *lending);
 /* A file of whole and torn messages with dirt between them, in the place of a body, and the two columns for it. */
 void choose_file(struct input *input, struct lending *lending);
 
+/* A header that is mostly a flat JSON object, and a name, in the place of a body, that it mostly may have. */
+void choose_header(struct input *input, struct lending *lending);
+
 #endif

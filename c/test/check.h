@@ -47,5 +47,6 @@ void test_table_calls(void);
 void test_unreadable(void);
 void test_lent_memory(void);
 void test_files(void);
+void test_header_find(void);
 
 #endif

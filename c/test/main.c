@@ -9,5 +9,6 @@ int main(void)
     test_unreadable();
     test_lent_memory();
     test_files();
+    test_header_find();
     return checks_done();
 }

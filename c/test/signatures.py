@@ -1,11 +1,11 @@
 #!/usr/bin/env python3
 """signatures.py: prints a C file that is an error wherever include/midici_pe.h and the Rattle source disagree.
 
-It reads the exports and their structs from crates/hub and hub_message, the struct of a shape, the refusals' numbers and the
-sizes from the crates below them.
+It reads the exports, their structs and the numbers of kinds from crates/hub and hub_message, the struct of a shape, the
+refusals' numbers and the sizes from the crates below them.
 For each export it prints a pointer of the type that the source says, set to the function that the header declares; for
-each struct, refusal and size an assertion. What a compiler does not see is compared here: the names of parameters, and
-that neither side has a function or a refusal that the other lacks."""
+each struct, refusal, kind and size an assertion. What a compiler does not see is compared here: the names of parameters,
+and that neither side has a function, a refusal or a kind that the other lacks."""
 import pathlib
 import re
 import sys
@@ -14,7 +14,8 @@ ROOT = pathlib.Path(__file__).resolve().parent.parent.parent
 HEADER = ROOT / 'include' / 'midici_pe.h'
 TYPES = {'u8': ('uint8_t', 1), 'u16': ('uint16_t', 2), 'u32': ('uint32_t', 4), 'u64': ('uint64_t', 8), 'usize': ('size_t', 8)}
 STRUCTS = {'Answer': 'midici_pe_answer', 'FedAnswer': 'midici_pe_fed', 'StatsAnswer': 'midici_pe_stats',
-           'SyxAnswer': 'midici_pe_syx', 'RequestId': 'midici_pe_request_id', 'Shape': 'midici_pe_shape'}
+           'SyxAnswer': 'midici_pe_syx', 'FoundAnswer': 'midici_pe_found', 'RequestId': 'midici_pe_request_id',
+           'Shape': 'midici_pe_shape'}
 
 
 def wrong(what):
@@ -71,11 +72,17 @@ def print_structs(text):
         print(f"{struct} check_{struct} = {{{', '.join('0' for _ in members)}}};")
 
 
-def print_refusals(path, error, prefix):
-    cases = re.findall(rf'{error}::(\w+)(?:\(_\))? => (\d+),', source(path).split('pub fn value')[0])
+def print_numbers(path, enum, prefix):
+    """The numbers of an enum's cases: refusals, or kinds."""
+    cases = re.findall(rf'{enum}::(\w+)(?:\(_\))? => (\d+),', source(path).split('pub fn value')[0])
     for name, number in cases:
         check(f"{prefix}{re.sub(r'(?<=[a-z0-9])(?=[A-Z])', '_', name).upper()} == {number}")
     return len(cases)
+
+
+def enumerators(enum):
+    """How many of the header's enumerators are not 0."""
+    return len(re.findall(r'\bMIDICI_PE_\w+ = [1-9]', header.split(f'enum {enum} {{')[1].split('}')[0]))
 
 
 def number(name):
@@ -120,9 +127,12 @@ for function in re.findall(r'\b(\w+)\([^()]*\);', header):
     if function not in functions:
         wrong(f'{HEADER.name} declares {function}, which neither crates/hub nor hub_message exports')
 print_structs(hub + source('pe_reassembler/src/shape.rt'))
-refusals = print_refusals('pe_wire/src/error.rt', 'PeError', 'MIDICI_PE_')
-refusals += print_refusals('midici_core/src/error.rt', 'CiError', 'MIDICI_PE_CI_')
-refusals += print_refusals('syx/src/lib.rt', 'SyxError', 'MIDICI_PE_SYX_')
-if len(re.findall(r'\bMIDICI_PE_\w+ = [1-9]', header)) != refusals:
+refusals = print_numbers('pe_wire/src/error.rt', 'PeError', 'MIDICI_PE_')
+refusals += print_numbers('midici_core/src/error.rt', 'CiError', 'MIDICI_PE_CI_')
+refusals += print_numbers('syx/src/lib.rt', 'SyxError', 'MIDICI_PE_SYX_')
+refusals += print_numbers('pe_header/src/lib.rt', 'JsonError', 'MIDICI_PE_JSON_')
+if enumerators('midici_pe_refusal') != refusals:
     wrong(f'{HEADER.name} has other refusals than the source')
+if enumerators('midici_pe_kind') != print_numbers('hub/src/header.rt', 'Kind', 'MIDICI_PE_'):
+    wrong(f'{HEADER.name} has other kinds than the source')
 print_sizes()
