@@ -48,9 +48,14 @@ class Row:
         """The most that port / two copies may be."""
         return 1.5 if "65536 bytes at 4096" in self.name else None
 
+    def time_target(self):
+        """The most nanoseconds that the port may take."""
+        return 5_000_000 if self.table == "headers" else None
+
     def misses(self):
         over = self.copies_target() and self.copies_ratio() > self.copies_target()
-        return self.ratio() > self.target() or bool(over)
+        slow = self.time_target() and self.median["port"] > self.time_target()
+        return self.ratio() > self.target() or bool(over or slow)
 
 
 def rows():

@@ -1,4 +1,4 @@
-"""Draws docs/benchmarks.svg: the ratios of feed, split, readers and files as bars, and the cost of one feed by the records held."""
+"""Draws docs/benchmarks.svg: the ratios of all tables but growth as bars, and the cost of one feed by the records held."""
 
 import math
 from html import escape
@@ -9,6 +9,7 @@ WIDTH = 860
 LEFT = 330  # where the bars and the curves begin
 RIGHT = WIDTH - 70
 BAR = 20
+LONGEST = 2.0  # the ratio at which a bar is cut; its figure stands behind it
 INK, GRID, MET, OVER, RUST = "#1f2328", "#d8dee4", "#2f6fb3", "#c4501b", "#7a5195"
 
 
@@ -35,7 +36,7 @@ def curve(points, colour):
 
 
 def bar(row, y, unit):
-    end = LEFT + row.ratio() * unit
+    end = LEFT + min(row.ratio(), LONGEST) * unit
     mark = LEFT + row.target() * unit
     drawn = text(LEFT - 10, y + 13, row.label(), "end")
     drawn += rect(LEFT, y + 3, end - LEFT, BAR - 7, OVER if row.ratio() > row.target() else MET)
@@ -45,9 +46,10 @@ def bar(row, y, unit):
 
 def bars(found, top):
     """The bars of all tables but growth, and where they end."""
-    unit = (RIGHT - LEFT) / max(1.2, max(row.ratio() for row in found))
-    drawn, y = text(20, top, "Time of the port / time of the Rust (upright mark: the target)", weight="bold", size=14), top + 14
-    for name in ("feed", "split", "readers", "files"):
+    unit = (RIGHT - LEFT) / min(LONGEST, max(1.2, max(row.ratio() for row in found)))
+    title = f"Time of the port / time of the Rust (upright mark: the target; cut at {LONGEST:g})"
+    drawn, y = text(20, top, title, weight="bold", size=14), top + 14
+    for name in ("feed", "split", "readers", "files", "headers"):
         drawn += text(20, y + 13, name, weight="bold")
         for row in (row for row in found if row.table == name):
             drawn += bar(row, y, unit)

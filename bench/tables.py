@@ -14,6 +14,7 @@ TITLES = {
     "readers": "Readers: one call",
     "growth": "Growth: one feed, by the records that its slot holds before",
     "files": "Files: one .syx file, all its messages listed",
+    "headers": "Headers: one name looked up",
 }
 
 
@@ -35,12 +36,12 @@ def count(value):
     return "" if value is None else f"{value:,.0f}"
 
 
-def marked(value, target):
-    return "" if value is None else f"**{ratio(value)}**" if target and value > target else ratio(value)
+def marked(value, target, written=ratio):
+    return f"**{written(value)}**" if value and target and value > target else written(value)
 
 
 def cells(row, copies):
-    own = [row.label(), ns(row.median["port"]), ns(row.median["rust"]), marked(row.ratio(), row.target())]
+    own = [row.label(), marked(row.median["port"], row.time_target(), ns), ns(row.median["rust"]), marked(row.ratio(), row.target())]
     own += [ratio(row.quickest_ratio()), count(row.count.get("port")), count(row.count.get("rust")), ratio(row.count_ratio())]
     return own + [ratio(row.copy_rate()) or marked(row.copies_ratio(), row.copies_target())] if copies else own
 

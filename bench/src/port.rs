@@ -69,3 +69,8 @@ pub fn mcoded7_decode(text: &[u8], out: &mut [u8]) -> usize {
 pub fn syx_list(file: &[u8], places: &mut [u64], lengths: &mut [u64]) -> exports::SyxAnswer {
     exports::midici_pe_syx_list(file, places, lengths)
 }
+
+/// Looks a name up in a header.
+pub fn header_find(header: &[u8], name: &[u8]) -> exports::FoundAnswer {
+    exports::midici_pe_header_find(header, name)
+}

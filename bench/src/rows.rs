@@ -2,6 +2,7 @@
 mod feed;
 mod files;
 mod growth;
+mod headers;
 mod readers;
 mod split;
 
@@ -14,4 +15,5 @@ pub fn each(mut visit: impl FnMut(Row)) {
     readers::each(&mut visit);
     growth::each(&mut visit);
     files::each(&mut visit);
+    headers::each(&mut visit);
 }

@@ -29,7 +29,7 @@ pub fn long_words(input: &[u8]) -> Vec<u64> {
 }
 
 /// The header whose length (2) stands at `at`, and what follows it.
-fn header_and_rest(input: &[u8], at: usize) -> (&[u8], &[u8]) {
+pub fn header_and_rest(input: &[u8], at: usize) -> (&[u8], &[u8]) {
     let rest = from(input, at + 2);
     rest.split_at(rest.len().min(u16_at(input, at).into()))
 }

@@ -1,6 +1,6 @@
 //! The functions that are compared, a row for each.
 use crate::export::{export, Export};
-use crate::functions::{chunks, controller, cutter, mcoded7, messages, muids, records, syx, wire};
+use crate::functions::{chunks, controller, cutter, json, mcoded7, messages, muids, records, syx, wire};
 use crate::inputs::{self, Each};
 use crate::outcome::{Answer, Outcome};
 use crate::rng::Rng;
@@ -168,6 +168,9 @@ functions! {
     /// Places' room (2) and lengths' room (2), in words; the file.
     SyxList: row("midici_pe_syx_list", &[32], syx::files, syx::random_file,
         syx::list).not_in_original().writes_columns().not_replayed();
+    /// The header's length (2), the header, the name.
+    HeaderFind: row("midici_pe_header_find", &[33, 34, 35], json::headers, json::random_header,
+        json::find).not_in_original().tells_whether().not_replayed();
 }
 
 impl Op {

@@ -2,7 +2,7 @@
 use exports::Refusing;
 use midici_core::spec::CI_HEADER_LEN;
 use oracle::case::Case;
-use oracle::input::{from, long_words, u16_at, u32_at, u64_at, u8_at, words, Chunk, Fields, List, Whole};
+use oracle::input::{from, header_and_rest, long_words, u16_at, u32_at, u64_at, u8_at, words, Chunk, Fields, List, Whole};
 use oracle::op::Op;
 use oracle::outcome::{Outcome, Refusal, Reply};
 
@@ -52,6 +52,7 @@ pub fn answer(case: &Case, mut lent: Vec<u8>) -> Found<Outcome> {
         Op::WholeEncode => whole_encode(Whole::read(input), out),
         Op::Position => position(&long_words(from(input, 2)), u16_at(input, 0)),
         Op::SyxList => return syx_list(u16_at(input, 0).into(), from(input, 4), long_words(out)),
+        Op::HeaderFind => header_find(header_and_rest(input, 0)),
     };
     Ok(Outcome { reply: reply?, out: lent })
 }
@@ -183,4 +184,9 @@ fn syx_list(places_room: usize, file: &[u8], mut columns: Vec<u64>) -> Found<Out
     let answer = exports::midici_pe_syx_list(file, places, lengths);
     let reply = reply(answer, |exports::SyxAnswer { refusal: _, messages, torn }| vec![*messages, *torn])?;
     Ok(Outcome { reply, out: columns.iter().flat_map(|word| word.to_le_bytes()).collect() })
+}
+
+fn header_find((header, name): (&[u8], &[u8])) -> Found<Reply> {
+    let answer = exports::midici_pe_header_find(header, name);
+    reply(answer, |exports::FoundAnswer { refusal: _, kind, place, length }| vec![u64::from(*kind), *place, *length])
 }
