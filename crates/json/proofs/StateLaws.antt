@@ -122,7 +122,8 @@ answers-same a c e (w ∷ ws′) = rw (e w, answers-same a c e ws′)
 
 codes : List ℕ
 codes =
-    1 ∷ 16777218 ∷ 124 ∷ 16777220 ∷ 64 ∷ 96 ∷ 112 ∷ 120 ∷ 128 ∷ 8192 ∷ 7936 ∷ 256 ∷ 4096 ∷ 6144 ∷ 7168 ∷ 7680 ∷ 8194 ∷ 16384 ∷ 32768 ∷ 65536 ∷ 131072 ∷ 262144 ∷ 524288 ∷ 1048576 ∷ 2097152 ∷ 4194304 ∷ 2 ∷ 16777216 ∷ 8388608 ∷ 0 ∷ []
+    1 ∷ 16777218 ∷ 124 ∷ 16777220 ∷ 64 ∷ 96 ∷ 112 ∷ 120 ∷ 128 ∷ 8192 ∷ 7936 ∷ 256 ∷ 4096 ∷ 6144 ∷ 7168
+    ∷ 7680 ∷ 8194 ∷ 16384 ∷ 32768 ∷ 65536 ∷ 131072 ∷ 262144 ∷ 524288 ∷ 1048576 ∷ 2097152 ∷ 4194304 ∷ 2 ∷ 16777216 ∷ 8388608 ∷ 0 ∷ []
 
 codes-right : map (λ (a : Abnf). answers a probes) residuals ≡ codes
 unfolding probes answers codes accepts accepted allBranches anyEnds behind branches ends first given push nullable residual residuals ws-byte ws begin-object end-object name-separator value-separator false-rule null-rule true-rule digit int hexdig unescaped short-escape escaped char string value member object json-text after-value after-name in-string

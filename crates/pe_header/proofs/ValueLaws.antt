@@ -298,12 +298,28 @@ pub record Onward (table text : List ℕ) (name first at : Spot) : Type 0 where
   pub within : at .place ≤ length text
   pub forward : name .place < length text → name .place < at .place
 
-module _ (table text : List ℕ) (name named colon first : Spot) (h : 1 ≤ name .place) (l : name .place ≤ length text)
-    (e1 : named ≡ reached table text name 8) (e2 : colon ≡ reached table text named 9) (e3 : first ≡ turned table text colon) where
+-- the steps of `value_of` up to the value's first byte
+pub record Steps (table text : List ℕ) (name first : Spot) : Type 0 where
+  pub right : RightTable table
+  pub begins : 1 ≤ name .place
+  pub inside : name .place ≤ length text
+  pub named : Spot
+  pub colon : Spot
+  pub name-read : named ≡ reached table text name 8
+  pub colon-read : colon ≡ reached table text named 9
+  pub first-read : first ≡ turned table text colon
+
+module _ (table text : List ℕ) (name first : Spot) (steps : Steps table text name first) where
   to-first : Onward table text name first first
   unfolding turned
   to-first =
-      let b1 : (name .place ≤ named .place) × (named .place ≤ length text) = rw e1 (reached-within table text name 8 l) in
+      let named = steps .named in
+      let colon = steps .colon in
+      let e1 = steps .name-read in
+      let e2 = steps .colon-read in
+      let e3 = steps .first-read in
+      let h = steps .begins in
+      let b1 : (name .place ≤ named .place) × (named .place ≤ length text) = rw e1 (reached-within table text name 8 (steps .inside)) in
       let b2 : (named .place ≤ colon .place) × (colon .place ≤ length text) = rw e2 (reached-within table text named 9 (b1 .1)) in
       let b3 : (colon .place ≤ first .place) × (first .place ≤ length text) = rw e3 (turned-within table text colon (b2 .1)) in
       let f : colon .place < length text → colon .place < first .place = λ k. rw e3 (turn-forward table text (colon .place) (colon .state) k) in
@@ -347,21 +363,21 @@ module _ (table text : List ℕ) (name named colon first : Spot) (h : 1 ≤ name
   by-reach at e = further-on at (reached-run table text first 26 ∙ ap (left table text) (sym e)) (rw e (reached-within table text first 26 (to-first .within)))
 
   -- what `value_of` ensures, by each of its returns
-  pub told : RightTable table → (r : ValueRead) → Onward table text name first (r .at) → r .end ≤ r .at .place → valueRead table text first ≡ r
+  pub told : (r : ValueRead) → Onward table text name first (r .at) → r .end ≤ r .at .place → valueRead table text first ≡ r
       → (run table (name .state) (drop (name .place) text) ≡ run table (r .at .state) (drop (r .at .place) text))
       × (((r .at .place ≤ length text) × (r .end ≤ r .at .place))
       × ((name .place < length text → name .place < r .at .place)
       × ((e : Entry) (c : ℕ) (rest : List ℕ) → GoodEntry e → IsEnd c → name .state ≡ 2 → drop (name .place) text ≡ nameText e (c ∷ rest)
       → ReadRight table text (valueFrom (name .place) e) (e .value) r)))
-  told right r o b q = (
+  told r o b q = (
     o .same-run,
     (
       (o .within, b),
       (
         o .forward,
         λ e c rest g k s w. subst (λ (x : ValueRead). ReadRight table text (valueFrom (name .place) e) (e .value) x) q
-            (member-law table right text (name .place) e c rest g k w named colon first (e1
-            ∙ ap (λ (x : ℕ). reached table text (spot (name .place) x) 8) s) e2 e3),
+            (member-law table (steps .right) text (name .place) e c rest g k w (steps .named) (steps .colon) first
+            (steps .name-read ∙ ap (λ (x : ℕ). reached table text (spot (name .place) x) 8) s) (steps .colon-read) (steps .first-read)),
       ),
     ),
   )

@@ -13,7 +13,8 @@ use Rattle.pe_header.proofs.find_with.Tie as tie
 
 -- the tree of a header that the table accepts
 the-tree : (c : tie.Else1)
-    → (let rm = c .before .before .before .before .read-members in let a = c .before .before .before .before .before .before .before .before .before .before .args in
+    → (let rm = c .before .before .before .before .read-members in
+    let a = c .before .before .before .before .before .before .before .before .before .before .args in
     TreeRead (now (a .header)) (now (a .name)) (rm .last .1 .1 .1 .0) (rm .result))
 the-tree c =
     let rm = c .before .before .before .before .read-members in

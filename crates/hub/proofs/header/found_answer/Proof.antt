@@ -30,8 +30,8 @@ number-requires c κs = search needs
 
 returns : tie.Need-returns
 returns c =
-    matched tells (c .before .before .a .given .1)
-    (ap (λ (n : ℕ). record { refusal = 0; kind = n; place = c .before .before .a .given .0 .1 .0; length = c .before .before .a .given .0 .1 .1 .0 }) (c .kind-number .ensures))
+    let v = c .before .before .a .given in
+    matched tells (v .1) (ap (λ (n : ℕ). record { refusal = 0; kind = n; place = v .0 .1 .0; length = v .0 .1 .1 .0 }) (c .kind-number .ensures))
 
 returns-2 : tie.Need-returns-2
 returns-2 c = matched tells (c .enum-told .given .1) refl
