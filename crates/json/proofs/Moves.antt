@@ -101,7 +101,9 @@ pub record OuterMoves : Type 0 where
 
 -- all of them, computed
 moves : StringMoves 2 8 × StringMoves 10 26 × LeadMoves 1 × LeadMoves 27 × ValueMoves × NumberMoves × WordMoves × OuterMoves
-unfolding leads lowSet inSet allBelow follows alike allBranches anyEnds behind branches ends first given push nullable residual residuals ws-byte ws begin-object end-object name-separator value-separator false-rule null-rule true-rule digit int hexdig unescaped short-escape escaped char string-rule value-rule member object json-text after-value after-name in-string
+unfolding leads lowSet inSet allBelow follows alike allBranches anyEnds behind branches ends first given push nullable residual residuals ws-byte ws
+    begin-object end-object name-separator value-separator false-rule null-rule true-rule digit int hexdig unescaped short-escape escaped char
+    string-rule value-rule member object json-text after-value after-name in-string
 moves = (
   record { plain-byte = refl; escape = refl; short-form = refl; long-form = refl; digit₁ = refl; digit₂ = refl; digit₃ = refl; digit₄ = refl; quote = refl },
   record { plain-byte = refl; escape = refl; short-form = refl; long-form = refl; digit₁ = refl; digit₂ = refl; digit₃ = refl; digit₄ = refl; quote = refl },

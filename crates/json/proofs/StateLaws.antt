@@ -38,7 +38,8 @@ endTest : ℕ → Bool
 endTest s = cond (eqb s 28) (nullable (residual s)) (not (nullable (residual s)))
 
 end-tests : allBelow 30 endTest ≡ true
-unfolding allBelow endTest nullable residual residuals ws-byte ws begin-object end-object name-separator value-separator false-rule null-rule true-rule digit int hexdig unescaped short-escape escaped char string value member object json-text after-value after-name in-string
+unfolding allBelow endTest nullable residual residuals ws-byte ws begin-object end-object name-separator value-separator false-rule null-rule
+    true-rule digit int hexdig unescaped short-escape escaped char string value member object json-text after-value after-name in-string
 end-tests = refl
 
 end-answer : (s : ℕ) → s < 30 → nullable (residual s) ≡ eqb s 28
@@ -72,7 +73,9 @@ lowTest : ℕ → Bool
 lowTest s = low (branches (push (residual s) []))
 
 low-tests : allBelow 30 lowTest ≡ true
-unfolding allBelow lowTest low branches first given push nullable residual residuals ws-byte ws begin-object end-object name-separator value-separator false-rule null-rule true-rule digit int hexdig unescaped short-escape escaped char string value member object json-text after-value after-name in-string
+unfolding allBelow lowTest low branches first given push nullable residual residuals ws-byte ws begin-object end-object name-separator value-separator
+    false-rule null-rule true-rule digit int hexdig unescaped short-escape escaped char string value member object json-text after-value after-name
+    in-string
 low-tests = refl
 
 pub low-law : (s b : ℕ) (w : List ℕ) → s < 30 → Matches (residual s) (b ∷ w) → b < 128
@@ -126,7 +129,9 @@ codes =
     ∷ 7680 ∷ 8194 ∷ 16384 ∷ 32768 ∷ 65536 ∷ 131072 ∷ 262144 ∷ 524288 ∷ 1048576 ∷ 2097152 ∷ 4194304 ∷ 2 ∷ 16777216 ∷ 8388608 ∷ 0 ∷ []
 
 codes-right : map (λ (a : Abnf). answers a probes) residuals ≡ codes
-unfolding probes answers codes accepts accepted allBranches anyEnds behind branches ends first given push nullable residual residuals ws-byte ws begin-object end-object name-separator value-separator false-rule null-rule true-rule digit int hexdig unescaped short-escape escaped char string value member object json-text after-value after-name in-string
+unfolding probes answers codes accepts accepted allBranches anyEnds behind branches ends first given push nullable residual residuals ws-byte ws
+    begin-object end-object name-separator value-separator false-rule null-rule true-rule digit int hexdig unescaped short-escape escaped char string
+    value member object json-text after-value after-name in-string
 codes-right = refl
 
 code-at : (s : ℕ) → answers (residual s) probes ≡ getD codes s (answers never probes)

@@ -74,5 +74,8 @@ examples =
     ∷ []
 
 pub examples-right : map (λ (x : Example). findValue (x .header) (x .name)) examples ≡ map (λ (x : Example). x .answer) examples
-unfolding bytes example examples isSevenBit isWs isDigit isHex isUnescaped isShort all pieceText piecesText stringText wordText valueText leadText entryText goodNumber span expect expectAll readHex readEscape readPiece readPieces readString readWord readNumber readValue readEntry readEntries readInside atEnd parse shortUnit hexValue unit units sameUnits isNamed kindOf valueBytes quotes foundAt lookUp list anyNamed repeated decimal small allSmall findNamed findIn findParsed findValue
+unfolding bytes example examples isSevenBit isWs isDigit isHex isUnescaped isShort all pieceText piecesText stringText wordText valueText leadText
+    entryText goodNumber span expect expectAll readHex readEscape readPiece readPieces readString readWord readNumber readValue readEntry readEntries
+    readInside atEnd parse shortUnit hexValue unit units sameUnits isNamed kindOf valueBytes quotes foundAt lookUp list anyNamed repeated decimal
+    small allSmall findNamed findIn findParsed findValue
 examples-right = refl

@@ -18,7 +18,9 @@ returns c =
     sym (find-long (now (a .header)) (now (a .name)) (c .if1 .taken))
 
 find-by-requires : tie.Need-find-by-requires
-unfolding right follows alike allBranches anyEnds behind branches ends first given push nullable residual residuals ws-byte ws begin-object end-object name-separator value-separator false-rule null-rule true-rule digit int hexdig unescaped short-escape escaped char string value member object json-text after-value after-name in-string
+unfolding right follows alike allBranches anyEnds behind branches ends first given push nullable residual residuals ws-byte ws begin-object end-object
+    name-separator value-separator false-rule null-rule true-rule digit int hexdig unescaped short-escape escaped char string value member object
+    json-text after-value after-name in-string
 find-by-requires c κs = (right-table _ refl refl, search needs)
 
 returns-2 : tie.Need-returns-2

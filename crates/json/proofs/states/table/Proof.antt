@@ -10,7 +10,9 @@ use Rattle.json.proofs.states.table.Tie as tie
 
 -- the table's rule: one test, which antt computes over all entries
 returns : tie.Need-returns
-unfolding right follows alike allBranches anyEnds behind branches ends first given push nullable residual residuals ws-byte ws begin-object end-object name-separator value-separator false-rule null-rule true-rule digit int hexdig unescaped short-escape escaped char string value member object json-text after-value after-name in-string
+unfolding right follows alike allBranches anyEnds behind branches ends first given push nullable residual residuals ws-byte ws begin-object end-object
+    name-separator value-separator false-rule null-rule true-rule digit int hexdig unescaped short-escape escaped char string value member object
+    json-text after-value after-name in-string
 returns c = right-table _ refl refl
 
 pub table-spec : {M : Type 1} → statement M
