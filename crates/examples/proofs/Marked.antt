@@ -11,7 +11,7 @@ use Rattle.seven_bit.specs.Reply.{granted, refused}
 use Rattle.seven_bit.specs.SevenBit.{isSevenBit, numberOf, bytesOf}
 use Rattle.midici_core.specs.Muid.{readMuid}
 use Rattle.pe_wire.specs.Wire.{readU14, writeU14}
-use Rattle.pe_frame.specs.Chunk.{readFields, readChunk}
+use Rattle.pe_frame.specs.Chunk.{withinCount, readEnd, readFields, readChunk}
 use Rattle.pe_frame.specs.Write.{chunkBytes}
 use Rattle.pe_chunker.specs.Cut.{clamped, budget, laterCapacity, firstCapacity, askFirst, bodyPieces, chunkAt, cutCount}
 use Rattle.pe_chunker.proofs.AskLaws.{cut-wide, cut-asked}
@@ -25,7 +25,8 @@ use Rattle.examples.specs.Examples.{carriedFrom, carried, Holds, AllHold
 -- a cut of lengths that are known, whose header fits
 record Sized (id : ℕ) (header body : List ℕ) (limit h b m count : ℕ) : Type 0 where
   low : id ≤ 127
-  seven : isSevenBit header ≡ true
+  header-bytes : isSevenBit header ≡ true
+  body-bytes : isSevenBit body ≡ true
   header-is : length header ≡ h
   body-is : length body ≡ b
   later : laterCapacity limit ≡ m
@@ -41,7 +42,9 @@ module _ (id : ℕ) (header body : List ℕ) (limit h b m count : ℕ) (z : Size
   unfolding cutCount
   count-granted =
       let fits : length header ≤ laterCapacity limit = rw (z .header-is, z .later) (z .fits) in
-      cut-asked id header body limit _ (record { low = z .low; seven = z .seven; fits = fits; few = rw counted (z .few) }) ∙ rw counted
+      cut-asked id header body limit _
+      (record { low = z .low; header-bytes = z .header-bytes; body-bytes = z .body-bytes; fits = fits; few = rw counted (z .few) })
+      ∙ rw counted
 
   -- the property of chunk k, read back, and what follows it
   next-carried : (n k size : ℕ) (lengths : List ℕ) → 1 ≤ k → k ≤ count → min (k * m - h) b - min ((k - 1) * m - h) b ≡ size
@@ -65,12 +68,12 @@ unfolding carriedFrom
 none-carried id header body limit k = refl
 
 -- the cuts of the table
-five-chunks : (id : ℕ) (header body : List ℕ) → id ≤ 127 → isSevenBit header ≡ true → length header ≡ 48 → length body ≡ 1000
+five-chunks : (id : ℕ) (header body : List ℕ) → id ≤ 127 → isSevenBit header ≡ true → isSevenBit body ≡ true → length header ≡ 48 → length body ≡ 1000
     → carried id header body 256 ≡ granted (184 ∷ 232 ∷ 232 ∷ 232 ∷ 120 ∷ [])
 unfolding laterCapacity budget clamped
-five-chunks id header body i s eh eb =
+five-chunks id header body i s t eh eb =
     let z : Sized id header body 256 48 1000 232 5 =
-    record { low = i; seven = s; header-is = eh; body-is = eb; later = refl; fits = omega arith; chunks = refl; few = omega arith } in
+    record { low = i; header-bytes = s; body-bytes = t; header-is = eh; body-is = eb; later = refl; fits = omega arith; chunks = refl; few = omega arith } in
     let next = next-carried id header body 256 48 1000 232 5 z in
     all-carried id header body 256 48 1000 232 5 z _
     (next 4 1 184 _ (omega arith) (omega arith) refl
@@ -79,28 +82,29 @@ five-chunks id header body i s eh eb =
     (next 1 4 232 _ (omega arith) (omega arith) refl
     (next 0 5 120 _ (omega arith) (omega arith) refl (none-carried id header body 256 6))))))
 
-none-in-the-first : (id : ℕ) (header body : List ℕ) → id ≤ 127 → isSevenBit header ≡ true → length header ≡ 104 → length body ≡ 200
+none-in-the-first : (id : ℕ) (header body : List ℕ) → id ≤ 127 → isSevenBit header ≡ true → isSevenBit body ≡ true → length header ≡ 104 → length body ≡ 200
     → carried id header body 128 ≡ granted (0 ∷ 104 ∷ 96 ∷ [])
 unfolding laterCapacity budget clamped
-none-in-the-first id header body i s eh eb =
+none-in-the-first id header body i s t eh eb =
     let z : Sized id header body 128 104 200 104 3 =
-    record { low = i; seven = s; header-is = eh; body-is = eb; later = refl; fits = omega arith; chunks = refl; few = omega arith } in
+    record { low = i; header-bytes = s; body-bytes = t; header-is = eh; body-is = eb; later = refl; fits = omega arith; chunks = refl; few = omega arith } in
     let next = next-carried id header body 128 104 200 104 3 z in
     all-carried id header body 128 104 200 104 3 z _
     (next 2 1 0 _ (omega arith) (omega arith) refl
     (next 1 2 104 _ (omega arith) (omega arith) refl
     (next 0 3 96 _ (omega arith) (omega arith) refl (none-carried id header body 128 4))))
 
-too-wide : (id : ℕ) (header body : List ℕ) → id ≤ 127 → isSevenBit header ≡ true → length header ≡ 105 → length body ≡ 200
+too-wide : (id : ℕ) (header body : List ℕ) → id ≤ 127 → isSevenBit header ≡ true → isSevenBit body ≡ true → length header ≡ 105 → length body ≡ 200
     → carried id header body 128 ≡ refused 4 0
 unfolding carried cutCount laterCapacity budget clamped
-too-wide id header body i s eh eb =
+too-wide id header body i s t eh eb =
     let count = length (bodyPieces 128 (length header) body) in
-    rw (cut-wide id header body 128 (granted count) i s (omega arith) (omega arith))
+    rw (cut-wide id header body 128 (granted count) i s t (omega arith) (omega arith))
 
 -- All marked examples hold.
 pub examples-hold : AllHold examples
-unfolding Holds AllHold examples readFields clamped budget laterCapacity firstCapacity askFirst readU14 writeU14 readMuid readMcoded7 askGroups askGroup groups decoded groupData restored pieces joined isSevenBit numberOf bytesOf stepped
+unfolding Holds AllHold examples withinCount readEnd readFields clamped budget laterCapacity firstCapacity askFirst readU14 writeU14 readMuid
+    readMcoded7 askGroups askGroup groups decoded groupData restored pieces joined isSevenBit numberOf bytesOf stepped
 examples-hold =
     let from-16 : AllHold (drop 16 examples) = (refl, (refl, (refl, tt))) in
     let from-11 : AllHold (drop 11 examples) = (refl, (refl, (none-in-the-first, (too-wide, (five-chunks, from-16))))) in

@@ -41,7 +41,7 @@ carried id header body limit =
     andThen (cutCount id header body limit) (λ count.
     carriedFrom id header body limit count 1)
 
--- What an example says. A cut has any request id up to 7F, any header of bytes up to 7F and any body, of the lengths named.
+-- What an example says. A cut has any request id up to 7F, and any header and body of bytes up to 7F, of the lengths named.
 unfoldable pub Holds : Example → Type 0
 Holds (field-reads s answer) = readU14 s ≡ answer
 Holds (field-writes v answer) = writeU14 v 2 ≡ answer
@@ -49,8 +49,8 @@ Holds (chunk-reads s answer) = readChunk s ≡ answer
 Holds (later-carries limit answer) = laterCapacity limit ≡ answer
 Holds (first-carries limit header-len answer) = askFirst limit header-len ≡ answer
 Holds (cut-carries limit header-len body-len answer) =
-    (id : ℕ) (header body : List ℕ) → id ≤ 127 → isSevenBit header ≡ true → length header ≡ header-len → length body ≡ body-len
-    → carried id header body limit ≡ answer
+    (id : ℕ) (header body : List ℕ) → id ≤ 127 → isSevenBit header ≡ true → isSevenBit body ≡ true → length header ≡ header-len
+    → length body ≡ body-len → carried id header body limit ≡ answer
 Holds (muid-reads s answer) = readMuid s ≡ answer
 Holds (mcoded7-reads s answer) = readMcoded7 s 8 ≡ answer
 Holds (counter-steps counter answer) = stepped counter ≡ answer

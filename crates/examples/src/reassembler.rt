@@ -99,7 +99,7 @@ fn timeouts(numbers: &mut [u64], index: &mut [u64], headers: &mut [u8], arenas: 
     polls(b"poll at 500:", numbers, 500);
 }
 
-// "Frames 1 of 2, 5 of 2, 2 of 2: body is 1, 2, 5."
+// "Frames 1 of 2, 5 of 2, 2 of 2": since document 02, K3, 5 of 2 is turned down, and the body is 1, 2.
 fn joins(numbers: &mut [u64], index: &mut [u64], headers: &mut [u8], arenas: &mut [u8]) {
     let first = [5u8, 1, 0, 0x7B, 2, 0, 1, 0, 1, 0, 1];
     let fifth = [5u8, 0, 0, 2, 0, 5, 0, 1, 0, 5];
@@ -107,6 +107,38 @@ fn joins(numbers: &mut [u64], index: &mut [u64], headers: &mut [u8], arenas: &mu
     feeds(b"chunk 1 of 2:", numbers, index, headers, arenas, &first);
     feeds(b"chunk 5 of 2:", numbers, index, headers, arenas, &fifth);
     feeds(b"chunk 2 of 2:", numbers, index, headers, arenas, &second);
+}
+
+// K3, in a slot: a new count below a number that is held is turned down, and the slot stays open.
+fn late_counts(numbers: &mut [u64], index: &mut [u64], headers: &mut [u8], arenas: &mut [u8]) {
+    let third = [5u8, 0, 0, 0, 0, 3, 0, 1, 0, 3];
+    let first_of_2 = [5u8, 1, 0, 0x7B, 2, 0, 1, 0, 1, 0, 1];
+    let first_of_3 = [5u8, 1, 0, 0x7B, 3, 0, 1, 0, 1, 0, 1];
+    feeds(b"chunk 3:", numbers, index, headers, arenas, &third);
+    feeds(
+        b"chunk 1 of 2:",
+        numbers,
+        index,
+        headers,
+        arenas,
+        &first_of_2,
+    );
+    feeds(
+        b"chunk 1 of 3:",
+        numbers,
+        index,
+        headers,
+        arenas,
+        &first_of_3,
+    );
+}
+
+// And so is a number above the count that is known.
+fn strays(numbers: &mut [u64], index: &mut [u64], headers: &mut [u8], arenas: &mut [u8]) {
+    let fourth = [5u8, 0, 0, 0, 0, 4, 0, 1, 0, 4];
+    let second = [5u8, 0, 0, 0, 0, 2, 0, 1, 0, 2];
+    feeds(b"chunk 4:", numbers, index, headers, arenas, &fourth);
+    feeds(b"chunk 2:", numbers, index, headers, arenas, &second);
 }
 
 pub(crate) fn examples() {
@@ -118,4 +150,6 @@ pub(crate) fn examples() {
     timeouts(&mut numbers, &mut index, &mut headers, &mut arenas);
     makes(&mut numbers, &mut index, &headers, &arenas);
     joins(&mut numbers, &mut index, &mut headers, &mut arenas);
+    late_counts(&mut numbers, &mut index, &mut headers, &mut arenas);
+    strays(&mut numbers, &mut index, &mut headers, &mut arenas);
 }

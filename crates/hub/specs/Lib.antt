@@ -2,3 +2,4 @@ pub mod Answers
 pub mod Table
 pub mod Files
 pub mod Header
+pub mod Chunks

@@ -1,7 +1,7 @@
 -- The laws of the chunk of a number: its fields, its range, and the cases of cutting it.
 -- Assumes nothing.
 use Prim.Native.Nat.{ℕ, suc, _+_, _-_, _<_, _≤_}
-use mathlib.Core.Bool.{Bool, true, false, cond, _&&_, _||_}
+use mathlib.Core.Bool.{Bool, true, false, cond, _&&_, _||_, or-true}
 use mathlib.Core.List.{List, []}
 use mathlib.Core.Path.{_≡_, refl, sym, ap, _∙_}
 use native.Mathlib.Omega.{arith}
@@ -13,12 +13,12 @@ use Rattle.seven_bit.specs.Reply.{granted, refused}
 use Rattle.seven_bit.specs.SevenBit.{isSevenBit}
 use Rattle.seven_bit.proofs.PartLaws.{part-none}
 use Rattle.seven_bit.proofs.ReplyLaws.{asked, and-told}
-use Rattle.pe_frame.specs.Chunk.{chunkFrom}
+use Rattle.pe_frame.specs.Chunk.{chunkFrom, withinCount}
 use Rattle.pe_frame.specs.Write.{chunkLen, writeChunk}
 use Rattle.pe_frame.proofs.ChunkLaws.{InRange, ask-yes}
 use Rattle.pe_chunker.specs.Cut.{budget, laterCapacity, bodyPieces, chunkAt, cutCount, cutChunk}
 use Rattle.pe_chunker.proofs.CutLaws.{later-is, later-between}
-use Rattle.pe_chunker.proofs.PieceLaws.{first-short, later-short, first-full, later-full}
+use Rattle.pe_chunker.proofs.PieceLaws.{first-short, later-short, first-full, later-full, piece-bytes}
 use Rattle.pe_chunker.proofs.AskLaws.{Cut, cut-asked, cut-told, cut-refused}
 
 -- the header of a chunk: all of it, or nothing
@@ -85,6 +85,11 @@ first-only : (b : Bool) (header : List ℕ) → (b || eqb (length (cond b header
 first-only true header = refl
 first-only false header = refl
 
+-- a number up to the count is within it
+within-told : (k count : ℕ) → k ≤ count → withinCount k count ≡ true
+unfolding withinCount
+within-told k count h = rw (le-leb k count h) (or-true (eqb count 0))
+
 -- every chunk of a cut has its fields in range
 pub chunk-in-range : (id : ℕ) (header body : List ℕ) (limit k : ℕ) → Cut id header body limit → 1 ≤ k
     → k ≤ length (bodyPieces limit (length header) body) → InRange (chunkAt id header body limit k)
@@ -100,8 +105,10 @@ chunk-in-range id header body limit k c one l =
       property-len = omega arith;
       count = f;
       number = omega arith;
-      header-bytes = seven-part (eqb k 1) header (c .seven);
+      header-bytes = seven-part (eqb k 1) header (c .header-bytes);
+      property-bytes = piece-bytes limit (length header) (k - 1) body (c .body-bytes);
       first = first-only (eqb k 1) header;
+      within = within-told k (length (bodyPieces limit (length header) body)) l;
     }
 
 -- the cases of cutting chunk k

@@ -1,6 +1,7 @@
 -- The laws of a body's pieces: how many there are, where each one stands, and how long it is.
 -- Assumes nothing.
 use Prim.Native.Nat.{ℕ, zero, suc, _+_, _-_, _*_, _/_, min, _<_, _≤_}
+use mathlib.Core.Bool.{true}
 use mathlib.Core.List.{List, [], _++_}
 use mathlib.Core.Logic.{⊎-elim}
 use mathlib.Core.Path.{_≡_, refl, sym, ap, _∙_}
@@ -12,7 +13,9 @@ use lib.Dec.{leb}
 use lib.ListN.{length, getD, take, drop, length-take, length-drop, take-append-drop, drop-of-length-le}
 use lib.Seq.{take-all, take-nil, drop-drop}
 use Rattle.seven_bit.specs.Parts.{part, joined}
+use Rattle.seven_bit.specs.SevenBit.{isSevenBit}
 use Rattle.seven_bit.proofs.PartLaws.{length-part}
+use Rattle.seven_bit.proofs.SevenBitLaws.{seven-bit-part}
 use Rattle.seven_bit.proofs.ReplyLaws.{both}
 use Rattle.pe_chunker.specs.Cut.{laterCapacity, firstCapacity, bodyPieces}
 use Rattle.pe_chunker.proofs.CutLaws.{later-between, first-is, joined-cut, length-cut, piece-cut}
@@ -76,6 +79,13 @@ piece-later limit header-len i body =
     piece-cut k (length body) i (drop a body) (later-some limit) (left-fits a body)
     ∙ ap (λ (l : List ℕ). take k l) (drop-drop (i * k) a body)
     ∙ ap (λ (n : ℕ). take k (drop (n + i * k) body)) (first-is limit header-len)
+
+-- bytes of the body up to 7F are so in each of its pieces
+pub piece-bytes : (limit header-len i : ℕ) (body : List ℕ) → isSevenBit body ≡ true → isSevenBit (getD (bodyPieces limit header-len body) i []) ≡ true
+piece-bytes limit header-len zero body s = rw (piece-first limit header-len body) (seven-bit-part 0 (laterCapacity limit - header-len) body s)
+piece-bytes limit header-len (suc i) body s =
+    let k = laterCapacity limit in
+    rw (piece-later limit header-len i body) (seven-bit-part (k - header-len + i * k) k body s)
 
 -- one chunk more
 next-mul : (i k m : ℕ) → k ≡ i + 1 → k * m ≡ i * m + m

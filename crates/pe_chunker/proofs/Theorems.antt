@@ -1,11 +1,11 @@
 -- What is true of every cut: the pieces are the body, their number, the size of a message, and what a chunk holds.
 -- Assumes nothing.
-use Prim.Native.Nat.{ℕ, _+_, _-_, _*_, _/_, min, _<_, _≤_}
+use Prim.Native.Nat.{ℕ, suc, _+_, _-_, _*_, _/_, min, _<_, _≤_}
 use mathlib.Core.Bool.{true}
 use mathlib.Core.List.{List, [], _∷_, _++_}
 use mathlib.Core.Path.{_≡_, refl, sym, ap, _∙_}
 use native.Mathlib.Omega.{arith}
-use lib.ListN.{length, length-append}
+use lib.ListN.{length, getD, length-append}
 use lib.Seq.{take-nil}
 use Rattle.seven_bit.specs.Parts.{joined}
 use Rattle.seven_bit.specs.Reply.{granted}
@@ -20,6 +20,8 @@ use Rattle.pe_chunker.specs.Cut.{clamped, budget, laterCapacity, firstCa
 use Rattle.pe_chunker.proofs.CutLaws.{budget-is, later-is, first-is}
 use Rattle.pe_chunker.proofs.PieceLaws.{joined-pieces, pieces-count, piece-length}
 use Rattle.pe_chunker.proofs.AskLaws.{cut-asked}
+use Rattle.pe_chunker.specs.Split.{cutList}
+use Rattle.pe_chunker.proofs.SplitLaws.{first-length, first-at, all-bytes, count-granted, list-told}
 use Rattle.pe_chunker.proofs.ChunkLaws.{count-told, chunk-short, chunk-full, chunk-in-range, chunk-written, chunk-told}
 
 -- The pieces of a cut, joined, are the body.
@@ -45,7 +47,9 @@ pub empty-body-is-one-chunk : (id : ℕ) (header : List ℕ) (limit : ℕ) → i
 unfolding cutCount
 empty-body-is-one-chunk id header limit i s h =
     let e : length (bodyPieces limit (length header) []) ≡ 1 = ap length (empty-pieces limit (length header)) in
-    cut-asked id header [] limit _ (record { low = i; seven = s; fits = omega (arith, later-is limit); few = omega arith }) ∙ rw e
+    cut-asked id header [] limit _
+    (record { low = i; header-bytes = s; body-bytes = unfold isSevenBit in refl; fits = omega (arith, later-is limit); few = omega arith })
+    ∙ rw e
 
 -- which is number 1 of 1, with the header and an empty property.
 pub empty-body-chunk : (id : ℕ) (header : List ℕ) (limit : ℕ)
@@ -108,3 +112,31 @@ pub chunk-reads-back : (id : ℕ) (header body : List ℕ) (limit k room : ℕ) 
 chunk-reads-back id header body limit k room bs q =
     let t = chunk-told id header body limit k room bs q in
     written-then-read (chunkAt id header body limit k) room bs (sym (chunk-written id header body limit k room (t .0) (t .1) (t .2)) ∙ q)
+
+-- A list that is cut into all its chunks at once: there are as many as are counted,
+pub split-count : (id : ℕ) (header body : List ℕ) (limit room places : ℕ) (chunks : List (List ℕ)) → cutList id header body limit room places ≡ granted chunks
+    → cutCount id header body limit ≡ granted (length chunks)
+split-count id header body limit room places chunks q =
+    let t = list-told id header body limit room places chunks q in
+    count-granted id header body limit (t .0) ∙ ap granted (sym (first-length id header body limit _) ∙ ap length (t .1))
+
+-- each is what is written of its number,
+pub split-each : (id : ℕ) (header body : List ℕ) (limit room places : ℕ) (chunks : List (List ℕ)) → cutList id header body limit room places ≡ granted chunks
+    → (k buffer : ℕ) → k < length chunks → budget limit ≤ buffer → cutChunk id header body limit (suc k) buffer ≡ granted (getD chunks k [])
+split-each id header body limit room places chunks q k buffer l r =
+    let t = list-told id header body limit room places chunks q in
+    let n = length (bodyPieces limit (length header) body) in
+    let e : length chunks ≡ n = sym (ap length (t .1)) ∙ first-length id header body limit n in
+    budget-is-room id header body limit n (suc k) buffer (count-granted id header body limit (t .0)) (omega arith) (omega (arith, e, l)) r
+    ∙ ap granted (sym (first-at id header body limit k n (omega (arith, e, l))) ∙ ap (λ (cs : List (List ℕ)). getD cs k []) (t .1))
+
+-- and together they have nine bytes each, the header and the body.
+pub split-bytes : (id : ℕ) (header body : List ℕ) (limit room places : ℕ) (chunks : List (List ℕ)) → cutList id header body limit room places ≡ granted chunks
+    → length (joined chunks) ≡ 9 * length chunks + length header + length body
+split-bytes id header body limit room places chunks q =
+    let t = list-told id header body limit room places chunks q in
+    let n = length (bodyPieces limit (length header) body) in
+    let e : length chunks ≡ n = sym (ap length (t .1)) ∙ first-length id header body limit n in
+    ap (λ (cs : List (List ℕ)). length (joined cs)) (sym (t .1))
+    ∙ all-bytes id header body limit (t .0 .fits)
+    ∙ ap (λ (m : ℕ). 9 * m + length header + length body) (sym e)

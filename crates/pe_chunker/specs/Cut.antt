@@ -1,8 +1,9 @@
 -- A header and a body cut into chunks (document 01, module 6, and the questions under **Cut**).
 -- Assumes nothing.
-use Prim.Native.Nat.{ℕ, zero, suc, _+_, _-_}
-use mathlib.Core.Bool.{cond, _&&_}
+use Prim.Native.Nat.{ℕ, zero, suc, _+_, _-_, _≤_}
+use mathlib.Core.Bool.{true, cond, _&&_}
 use mathlib.Core.List.{List, [], _∷_, _++_}
+use mathlib.Core.Path.{_≡_}
 use lib.Dec.{leb, ltb, eqb}
 use lib.ListN.{length, getD, take, drop}
 use Rattle.seven_bit.specs.Reply.{Reply, granted, _else_then_, andThen}
@@ -58,16 +59,25 @@ chunkAt request-id header body limit k =
       property = getD (bodyPieces limit (length header) body) (k - 1) [];
     }
 
--- "Request id? 1. Header bytes? 1. Header up to 16,383? 4. Header + 9 within budget? 4. At most 16,383 frames? 5.": the fourth is
--- `askFirst`'s.
+-- "Request id? 1. Header bytes? 1. Header up to 16,383? 4. Header + 9 within budget? 4. At most 16,383 frames? 5.": the fourth of these is
+-- `askFirst`'s. Document 02, K3: property bytes above 7F give 1 "after the header bytes in writing and cutting", asked of all of the body.
 unfoldable pub askCut : {A : Type 0} → ℕ → List ℕ → List ℕ → ℕ → Reply A → Reply A
 askCut request-id header body limit next =
     leb request-id 0x7F else 1 then
     isSevenBit header else 1 then
+    isSevenBit body else 1 then
     leb (length header) 16383 else 4 then
     andThen (askFirst limit (length header)) (λ _.
     leb (length (bodyPieces limit (length header) body)) 16383 else 5 then
     next)
+
+-- What a list is that has a yes to each of them.
+pub record Cut (request-id : ℕ) (header body : List ℕ) (limit : ℕ) : Type 0 where
+  pub low : request-id ≤ 127
+  pub header-bytes : isSevenBit header ≡ true
+  pub body-bytes : isSevenBit body ≡ true
+  pub fits : length header ≤ laterCapacity limit
+  pub few : length (bodyPieces limit (length header) body) ≤ 16383
 
 -- How many chunks there are.
 unfoldable pub cutCount : ℕ → List ℕ → List ℕ → ℕ → Reply ℕ

@@ -3,30 +3,24 @@
 use Prim.Native.Nat.{ℕ, _+_, _<_, _≤_}
 use mathlib.Core.Bool.{Bool, true, false, _||_}
 use mathlib.Core.List.{List, [], _∷_, _++_, append-assoc}
+use mathlib.Core.Logic.{_⊎_, inl, inr}
 use mathlib.Core.Path.{_≡_, refl, sym, ap, _∙_}
 use native.Mathlib.Omega.{arith}
 use borrow.Author.Tests.{le-leb, lt-leb, leb-true}
 use lib.Dec.{leb, eqb}
-use lib.ListN.{length, getD, drop, length-append}
+use lib.ListN.{length, getD, drop, length-append, length-drop}
+use lib.Seq.{take-all}
 use Rattle.seven_bit.specs.Parts.{part, put, putFit}
 use Rattle.seven_bit.specs.Reply.{Reply, granted, refused, _else_then_, andThen}
 use Rattle.seven_bit.specs.SevenBit.{isSevenBit, numberOf, bytesOf}
-use Rattle.seven_bit.proofs.PartLaws.{put-put, fit-yes, length-put}
-use Rattle.seven_bit.proofs.SevenBitLaws.{bytes-length}
-use Rattle.seven_bit.proofs.ReplyLaws.{asked}
+use Rattle.seven_bit.proofs.PartLaws.{part-none, part-next, put-put, fit-yes, length-put}
+use Rattle.seven_bit.proofs.SevenBitLaws.{seven-bit-cons, seven-bit-at, seven-bit-part, seven-bit-past, bytes-length}
+use Rattle.seven_bit.proofs.ReplyLaws.{both, asked, then-else}
 use Rattle.pe_wire.specs.Wire.{readU14}
-use Rattle.pe_frame.specs.Chunk.{Chunk, Fields, readFields}
-use Rattle.pe_frame.specs.Write.{askChunk, chunkLen, chunkBytes, writeChunk}
+use Rattle.pe_frame.specs.Chunk.{Chunk, Fields, withinCount, readEnd, readFields}
+use Rattle.pe_frame.specs.Write.{askChunk, chunkLen, chunkBytes, putChunk, writeChunk}
 pub use Rattle.pe_frame.specs.Write.{InRange}
-use Rattle.pe_frame.proofs.FieldLaws.{three-fields}
-
--- the questions behind the fields
-unfoldable pub readEnd : List ℕ → ℕ → ℕ → ℕ → ℕ → Reply Fields
-readEnd s nh count number nd =
-    leb (9 + nh + nd) (length s) else 2 then
-    leb (length s) (9 + nh + nd) else 1 then
-    (eqb number 1 || eqb nh 0) else 8 then
-    granted (record { request-id = getD s 0 0; header-len = nh; num-chunks = count; chunk-num = number; property-at = 9 + nh; property-len = nd })
+use Rattle.pe_frame.proofs.FieldLaws.{three-fields, read-yes}
 
 -- those behind the header, where the bytes of all fields are asked at once
 abbrev pub readCounts : List ℕ → ℕ → Reply Fields
@@ -37,7 +31,7 @@ readCounts s nh =
 -- are put where those before had a yes
 pub past-header : (s : List ℕ) (nh : ℕ) → 9 + nh ≤ length s → getD s 0 0 ≤ 127 → readU14 (drop 1 s) ≡ granted nh → isSevenBit (part 3 nh s) ≡ true →
     readFields s ≡ readCounts s nh
-unfolding readFields readEnd
+unfolding readFields
 past-header s nh l i h b =
     let e₅ : 5 + nh ≡ 3 + nh + 2 = omega arith in
     let e₇ : 7 + nh ≡ 3 + nh + 4 = omega arith in
@@ -50,19 +44,77 @@ pub past-fields : (s : List ℕ) (nh count number nd : ℕ) → isSevenBit (part
     → readCounts s nh ≡ readEnd s nh count number nd
 past-fields s nh count number nd t c n d = rw (t, c, n, d)
 
+-- where every byte is up to 7F, only the questions of lengths and numbers are left
+module _ (s : List ℕ) (nine : 9 ≤ length s) (low : isSevenBit s ≡ true) where
+  low-size : readU14 (drop 1 s) ≡ granted (numberOf (part 1 2 s))
+  low-size = read-yes s 1 _ (omega arith) (seven-bit-part 1 2 s low) refl
+
+  pub low-short : (nh : ℕ) → nh ≡ numberOf (part 1 2 s) → length s < 9 + nh → readFields s ≡ refused 2 0
+  unfolding readFields
+  low-short nh e h = rw (le-leb _ _ nine, le-leb _ _ (seven-bit-at s low 0), low-size, ← e, lt-leb _ _ h)
+
+  pub low-fields : (nh count number nd : ℕ) → nh ≡ numberOf (part 1 2 s) → 9 + nh ≤ length s → count ≡ numberOf (part (3 + nh) 2 s)
+      → number ≡ numberOf (part (3 + nh + 2) 2 s) → nd ≡ numberOf (part (3 + nh + 4) 2 s) → readFields s ≡ readEnd s nh count number nd
+  low-fields nh count number nd e l c n d =
+      past-header s nh l (seven-bit-at s low 0) (low-size ∙ ap granted (sym e)) (seven-bit-part 3 nh s low)
+      ∙ past-fields s nh count number nd (seven-bit-part (3 + nh) 6 s low) c n d
+
+first-low : (s : List ℕ) → 0 < length s → getD s 0 0 ≤ 127 → isSevenBit (part 0 1 s) ≡ true
+unfolding isSevenBit
+first-low s n h =
+    let e : isSevenBit (part 1 0 s) ≡ true = ap isSevenBit (part-none 1 s) in
+    ap isSevenBit (part-next 0 0 s 0 n) ∙ seven-bit-cons (getD s 0 0) (part 1 0 s) h e
+
+-- where one is not, and none of those that are asked first, it is the property's, or one too many
+high-property : (s : List ℕ) (nh nd : ℕ) → 9 + nh + nd ≡ length s → getD s 0 0 ≤ 127 → isSevenBit (part 1 2 s) ≡ true → isSevenBit (part 3 nh s) ≡ true
+    → isSevenBit (part (3 + nh) 6 s) ≡ true → isSevenBit s ≡ false → isSevenBit (part (9 + nh) nd s) ≡ false
+high-property s nh nd l i h₁ h₂ h₃ b =
+    let one : isSevenBit (part 0 1 s) ≡ true = first-low s (omega arith) i in
+    let zero : drop 0 s ≡ s = drop-none s in
+    let e : 3 + nh + 6 ≡ 9 + nh = omega arith in
+    let all : part (9 + nh) nd s ≡ drop (9 + nh) s = take-all nd (drop (9 + nh) s) (omega (arith, length-drop (9 + nh) s)) in
+    ap isSevenBit all
+    ∙ ap (λ (k : ℕ). isSevenBit (drop k s)) (sym e)
+    ∙ sym (seven-bit-past (3 + nh) 6 s h₃)
+    ∙ sym (seven-bit-past 3 nh s h₂)
+    ∙ sym (seven-bit-past 1 2 s h₁)
+    ∙ sym (seven-bit-past 0 1 s one)
+    ∙ ap isSevenBit zero
+    ∙ b
+  where
+    drop-none : (t : List ℕ) → drop 0 t ≡ t
+    drop-none [] = refl
+    drop-none (x ∷ xs) = refl
+
+pub high-end : (s : List ℕ) (nh count number nd : ℕ) → 9 + nh + nd ≤ length s → getD s 0 0 ≤ 127 → isSevenBit (part 1 2 s) ≡ true
+    → isSevenBit (part 3 nh s) ≡ true
+    → isSevenBit (part (3 + nh) 6 s) ≡ true → isSevenBit s ≡ false → readEnd s nh count number nd ≡ refused 1 0
+unfolding readEnd
+high-end s nh count number nd l i h₁ h₂ h₃ b = go (both (leb (length s) (9 + nh + nd)))
+  where
+    go : (leb (length s) (9 + nh + nd) ≡ true) ⊎ (leb (length s) (9 + nh + nd) ≡ false) → readEnd s nh count number nd ≡ refused 1 0
+    go (inl t) = rw (le-leb _ _ l, t, high-property s nh nd (omega (arith, l, leb-true (length s) (9 + nh + nd) t)) i h₁ h₂ h₃ b)
+    go (inr t) = rw (le-leb _ _ l, t)
+
+-- the writer's questions behind those of lengths and numbers
+abbrev pub askBytes : {A : Type 0} → Chunk → Reply A → Reply A
+askBytes c next =
+    isSevenBit (c .header) else 1 then
+    isSevenBit (c .property) else 1 then
+    (eqb (c .chunk-num) 1 || eqb (length (c .header)) 0) else 8 then
+    withinCount (c .chunk-num) (c .num-chunks) else 8 then
+    next
+
+pub past-numbers : {A : Type 0} (c : Chunk) (next : Reply A) → c .request-id ≤ 127 → length (c .header) ≤ 16383 → length (c .property) ≤ 16383
+    → c .num-chunks ≤ 16383 → c .chunk-num ≤ 16383 → askChunk c next ≡ askBytes c next
+unfolding askChunk
+past-numbers c next i h p n k = rw (le-leb _ _ i, le-leb _ _ h, le-leb _ _ p, le-leb _ _ n, le-leb _ _ k)
+
 -- a chunk in range has a yes to each question
 pub ask-yes : {A : Type 0} (c : Chunk) (next : Reply A) → InRange c → askChunk c next ≡ next
-unfolding askChunk
 ask-yes c next r =
-    rw (
-      le-leb _ _ (r .id),
-      le-leb _ _ (r .header-len),
-      le-leb _ _ (r .property-len),
-      le-leb _ _ (r .count),
-      le-leb _ _ (r .number),
-      r .header-bytes,
-      r .first,
-    )
+    past-numbers c next (r .id) (r .header-len) (r .property-len) (r .count) (r .number)
+    ∙ rw (r .header-bytes, r .property-bytes, r .first, r .within)
 
 -- and only such a one has
 pub ask-told : {A : Type 0} (c : Chunk) (next : Reply A) (a : A) → askChunk c next ≡ granted a → InRange c × (next ≡ granted a)
@@ -74,7 +126,9 @@ ask-told c next a q =
     let a₄ = asked (leb (c .num-chunks) 16383) 1 _ a (a₃ .1) in
     let a₅ = asked (leb (c .chunk-num) 16383) 1 _ a (a₄ .1) in
     let a₆ = asked (isSevenBit (c .header)) 1 _ a (a₅ .1) in
-    let a₇ = asked (eqb (c .chunk-num) 1 || eqb (length (c .header)) 0) 8 _ a (a₆ .1) in (
+    let a₇ = asked (isSevenBit (c .property)) 1 _ a (a₆ .1) in
+    let a₈ = asked (eqb (c .chunk-num) 1 || eqb (length (c .header)) 0) 8 _ a (a₇ .1) in
+    let a₉ = asked (withinCount (c .chunk-num) (c .num-chunks)) 8 _ a (a₈ .1) in (
       record {
         id = leb-true _ _ (a₁ .0);
         header-len = leb-true _ _ (a₂ .0);
@@ -82,33 +136,37 @@ ask-told c next a q =
         count = leb-true _ _ (a₄ .0);
         number = leb-true _ _ (a₅ .0);
         header-bytes = a₆ .0;
-        first = a₇ .0;
+        property-bytes = a₇ .0;
+        first = a₈ .0;
+        within = a₉ .0;
       },
-      a₇ .1,
+      a₉ .1,
     )
 
 -- what follows the questions may be asked behind their answer
 pub ask-then : {A B : Type 0} (c : Chunk) (x : A) (next : A → Reply B) → andThen (askChunk c (granted x)) next ≡ askChunk c (next x)
 unfolding askChunk
 ask-then {A} {B} c x next =
-    go (leb (c .request-id) 0x7F) (leb (length (c .header)) 16383) (leb (length (c .property)) 16383) (leb (c .num-chunks) 16383) (leb (c .chunk-num) 16383)
-    (isSevenBit (c .header)) (eqb (c .chunk-num) 1 || eqb (length (c .header)) 0)
-  where
-    go : (b₁ b₂ b₃ b₄ b₅ b₆ b₇ : Bool) →
-        andThen (b₁ else 1 then b₂ else 1 then b₃ else 1 then b₄ else 1 then b₅ else 1 then b₆ else 1 then b₇ else 8 then granted x) next
-        ≡ (b₁ else 1 then b₂ else 1 then b₃ else 1 then b₄ else 1 then b₅ else 1 then b₆ else 1 then b₇ else 8 then next x)
-    go false b₂ b₃ b₄ b₅ b₆ b₇ = refl
-    go true false b₃ b₄ b₅ b₆ b₇ = refl
-    go true true false b₄ b₅ b₆ b₇ = refl
-    go true true true false b₅ b₆ b₇ = refl
-    go true true true true false b₆ b₇ = refl
-    go true true true true true false b₇ = refl
-    go true true true true true true false = refl
-    go true true true true true true true = refl
+    sym
+    (then-else (leb (c .request-id) 0x7F) 1 _ _ next
+    (then-else (leb (length (c .header)) 16383) 1 _ _ next
+    (then-else (leb (length (c .property)) 16383) 1 _ _ next
+    (then-else (leb (c .num-chunks) 16383) 1 _ _ next
+    (then-else (leb (c .chunk-num) 16383) 1 _ _ next
+    (then-else (isSevenBit (c .header)) 1 _ _ next
+    (then-else (isSevenBit (c .property)) 1 _ _ next
+    (then-else (eqb (c .chunk-num) 1 || eqb (length (c .header)) 0) 8 _ _ next
+    (then-else (withinCount (c .chunk-num) (c .num-chunks)) 8 (granted x) (next x) next refl)))))))))
 
 -- a refusal of the questions is that of all that follows them
 pub ask-refused : {A B : Type 0} (c : Chunk) (x : A) (next : Reply B) (number value : ℕ) → askChunk c (granted x) ≡ refused number value → askChunk c next ≡ refused number value
 ask-refused {A} {B} c x next number value q = sym (ask-then c x (λ (y : A). next)) ∙ ap (λ (r : Reply A). andThen r (λ (y : A). next)) q
+
+-- a chunk whose numbers have 14 bits is stored where it fits
+pub put-small : (c : Chunk) (out : List ℕ) (at : ℕ) → length (c .header) ≤ 16383 → length (c .property) ≤ 16383 → c .num-chunks ≤ 16383 → c .chunk-num ≤ 16383
+    → putChunk c out at ≡ putFit out at (chunkBytes c)
+unfolding putChunk
+put-small c out at h p n k = rw (le-leb _ _ h, le-leb _ _ p, le-leb _ _ n, le-leb _ _ k)
 
 pub write-granted : (c : Chunk) (room : ℕ) → InRange c → 9 + length (c .header) + length (c .property) ≤ room → writeChunk c room ≡ granted (chunkBytes c)
 unfolding writeChunk chunkLen

@@ -1,3 +1,4 @@
+pub mod LowLaws
 pub mod FieldLaws
 pub mod ChunkLaws
 pub mod MessageLaws

@@ -22,7 +22,7 @@ use Rattle.midici_core.proofs.HeaderLaws.{header-length}
 use Rattle.midici_core.proofs.RoundTrip.{header-reads-back}
 use Rattle.pe_wire.specs.Wire.{readU14}
 use Rattle.pe_wire.proofs.RoundTrip.{read-bytes, read-then-bytes, read-small}
-use Rattle.pe_frame.specs.Chunk.{Chunk, Fields, readFields, chunkOf}
+use Rattle.pe_frame.specs.Chunk.{Chunk, Fields, withinCount, readEnd, readFields, chunkOf}
 pub use Rattle.pe_frame.specs.Chunk.{fields}
 use Rattle.pe_frame.specs.Write.{chunkBytes, chunkLen, writeChunk, headerFor, writeWhole}
 use Rattle.pe_frame.proofs.ChunkLaws.{InRange, ask-told, write-granted, chunk-length}
@@ -72,7 +72,7 @@ module _ (c : Chunk) where
 
   -- The bytes of a chunk that may be written read as its fields.
   pub bytes-read : InRange c → readFields (chunkBytes c) ≡ granted (fields c)
-  unfolding readFields chunkLen
+  unfolding readFields readEnd chunkLen
   bytes-read r =
       let s : List ℕ = chunkBytes c in
       let l : length s ≡ 9 + length (c .header) + length (c .property) = chunk-length c in
@@ -93,7 +93,10 @@ module _ (c : Chunk) where
         r₄,
         le-leb (9 + length (c .header) + length (c .property)) (length s) (omega arith),
         le-leb (length s) (9 + length (c .header) + length (c .property)) (omega arith),
+        property-part,
+        r .property-bytes,
         r .first,
+        r .within,
       )
 
   -- The chunk that stands in its bytes is the chunk.
@@ -125,10 +128,12 @@ pub record ReadFrom (s : List ℕ) (f : Fields) : Type 0 where
   pub len : readU14 (drop (7 + f .header-len) s) ≡ granted (f .property-len)
   pub at : f .property-at ≡ 9 + f .header-len
   pub long : length s ≡ 9 + f .header-len + f .property-len
+  pub property-bytes : isSevenBit (part (f .property-at) (f .property-len) s) ≡ true
   pub first : (eqb (f .chunk-num) 1 || eqb (f .header-len) 0) ≡ true
+  pub within : withinCount (f .chunk-num) (f .num-chunks) ≡ true
 
 pub read-told : (s : List ℕ) (f : Fields) → readFields s ≡ granted f → ReadFrom s f
-unfolding readFields
+unfolding readFields readEnd
 read-told s f q =
     let a₁ = asked (leb 9 (length s)) 2 _ f q in
     let a₂ = asked (leb (getD s 0 0) 0x7F) 1 _ f (a₁ .1) in
@@ -142,8 +147,10 @@ read-told s f q =
     let nd = a₈ .0 in
     let a₉ = asked (leb (9 + nh + nd) (length s)) 2 _ f (a₈ .2) in
     let b₁ = asked (leb (length s) (9 + nh + nd)) 1 _ f (a₉ .1) in
-    let b₂ = asked (eqb (a₇ .0) 1 || eqb nh 0) 8 _ f (b₁ .1) in
-    let e = same-grant _ _ f refl (b₂ .1) in
+    let b₂ = asked (isSevenBit (part (9 + nh) nd s)) 1 _ f (b₁ .1) in
+    let b₃ = asked (eqb (a₇ .0) 1 || eqb nh 0) 8 _ f (b₂ .1) in
+    let b₄ = asked (withinCount (a₇ .0) (a₆ .0)) 8 _ f (b₃ .1) in
+    let e = same-grant _ _ f refl (b₄ .1) in
     let le : 9 + nh + nd ≤ length s = leb-true _ _ (a₉ .0) in
     let ge : length s ≤ 9 + nh + nd = leb-true _ _ (b₁ .0) in
     subst (ReadFrom s) e
@@ -157,7 +164,9 @@ read-told s f q =
       len = a₈ .1;
       at = refl;
       long = omega arith;
-      first = b₂ .0;
+      property-bytes = b₂ .0;
+      first = b₃ .0;
+      within = b₄ .0;
     })
 
 module _ (s : List ℕ) (f : Fields) (q : readFields s ≡ granted f) where
@@ -180,7 +189,9 @@ module _ (s : List ℕ) (f : Fields) (q : readFields s ≡ granted f) where
         count = read-small _ _ (told .count);
         number = read-small _ _ (told .number);
         header-bytes = told .header-bytes;
+        property-bytes = told .property-bytes;
         first = rw header-size (told .first);
+        within = told .within;
       }
 
   -- a field and what follows it are what stands from it on

@@ -1,7 +1,7 @@
 -- The chunk of a Property Exchange message (document 01's frame, module 5, and the questions under **Frame**).
 -- Assumes nothing.
 use Prim.Native.Nat.{ℕ, _+_}
-use mathlib.Core.Bool.{_||_}
+use mathlib.Core.Bool.{Bool, _||_}
 use mathlib.Core.List.{List}
 use lib.Dec.{leb, eqb}
 use lib.ListN.{length, getD, drop}
@@ -35,9 +35,31 @@ pub record Fields : Type 0 where
   pub property-at : ℕ
   pub property-len : ℕ
 
+-- Is the number within the count, where that is known? (Document 02, K3: "A nonzero count below the frame number".)
+unfoldable pub withinCount : ℕ → ℕ → Bool
+withinCount number count = eqb count 0 || leb number count
+
+-- Behind the fields: "Property all there? 2. Nothing left over? 1. Frame number 1, or no header? 8."
+-- K3: "Property bytes above 7F give 1, after the left-over question"; "A nonzero count below the frame number now gives 8, asked last".
+unfoldable pub readEnd : List ℕ → ℕ → ℕ → ℕ → ℕ → Reply Fields
+readEnd s nh count number nd =
+    leb (9 + nh + nd) (length s) else 2 then
+    leb (length s) (9 + nh + nd) else 1 then
+    isSevenBit (part (9 + nh) nd s) else 1 then
+    (eqb number 1 || eqb nh 0) else 8 then
+    withinCount number count else 8 then
+    granted (record {
+      request-id = getD s 0 0;
+      header-len = nh;
+      num-chunks = count;
+      chunk-num = number;
+      property-at = 9 + nh;
+      property-len = nd;
+    })
+
 -- "Request id, header length (14 bits), header, frame count (14), frame number (14), property length (14), property."
 -- "Nine bytes? 2. Request id up to 7F? 1. Header length bytes up to 7F? 1. At least 9 + header length bytes? 2. Header bytes up to 7F? 1.
--- Count, then number, then property length bytes up to 7F? 1. Property all there? 2. Nothing left over? 1. Frame number 1, or no header? 8."
+-- Count, then number, then property length bytes up to 7F? 1." Then the questions behind them.
 unfoldable pub readFields : List ℕ → Reply Fields
 readFields s =
     leb 9 (length s) else 2 then
@@ -48,17 +70,7 @@ readFields s =
     andThen (readU14 (drop (3 + nh) s)) (λ count.
     andThen (readU14 (drop (5 + nh) s)) (λ number.
     andThen (readU14 (drop (7 + nh) s)) (λ nd.
-    leb (9 + nh + nd) (length s) else 2 then
-    leb (length s) (9 + nh + nd) else 1 then
-    (eqb number 1 || eqb nh 0) else 8 then
-    granted (record {
-      request-id = getD s 0 0;
-      header-len = nh;
-      num-chunks = count;
-      chunk-num = number;
-      property-at = 9 + nh;
-      property-len = nd;
-    })))))
+    readEnd s nh count number nd))))
 
 -- The chunk that stands in the bytes.
 abbrev pub chunkOf : List ℕ → Fields → Chunk

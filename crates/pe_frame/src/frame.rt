@@ -1,18 +1,20 @@
 // A chunk: request id, header length (14 bits), header, chunk count (14), chunk number (14), property length (14), property.
+use crate::low::all_low;
 use pe_wire::error::PeError;
 use pe_wire::wire::Encoded;
 use pe_wire::wire::U14_MAX;
 use pe_wire::wire::write_u14_le7;
-ghost use mathlib.Core.Bool.{true};
+ghost use mathlib.Core.Bool.{true, false};
 ghost use mathlib.Core.Path.{_≡_};
 ghost use Prim.Native.Nat.{_+_, _≤_};
-ghost use lib.ListN.{length, getD, drop};
+ghost use lib.ListN.{length};
 ghost use Rattle.seven_bit.specs.Parts.{part, put};
 ghost use Rattle.seven_bit.specs.Reply.{granted, outcome, writing};
 ghost use Rattle.seven_bit.specs.SevenBit.{isSevenBit, numberOf, bytesOf};
-ghost use Rattle.pe_wire.specs.Wire.{readU14, encodedTold};
-ghost use Rattle.pe_frame.specs.Chunk.{Chunk, readFields, chunkTold, chunkFrom};
-ghost use Rattle.pe_frame.specs.Write.{askChunk, chunkLenTold, chunkBytes, writeChunk};
+ghost use Rattle.pe_wire.specs.Errors.{peRefused};
+ghost use Rattle.pe_wire.specs.Wire.{encodedTold};
+ghost use Rattle.pe_frame.specs.Chunk.{Chunk, withinCount, readFields, chunkTold, chunkFrom};
+ghost use Rattle.pe_frame.specs.Write.{askChunk, chunkLenTold, chunkBytes, putChunk, writeChunk};
 
 // The bytes of a chunk besides its header and property.
 pub const PE_FRAMING_LEN: usize = 9;
@@ -53,7 +55,7 @@ fn low_two(data: &[u8], at: usize) -> bool
     (data[at] | data[at + 1]) <= 0x7F
 }
 
-// Are the six bytes from at on up to 7F? One test of all keeps the reader small enough to be built into its callers.
+// Are the six bytes from at on up to 7F?
 fn low_six(data: &[u8], at: usize) -> bool
     requires { ⌜ at + 6 ≤ length (now «data») ⌝ }
     ensures { λ r. ⌜ r ≡ isSevenBit (part at 6 (now («data» .entry))) ⌝ }
@@ -61,20 +63,30 @@ fn low_six(data: &[u8], at: usize) -> bool
     (data[at] | data[at + 1] | data[at + 2] | data[at + 3] | data[at + 4] | data[at + 5]) <= 0x7F
 }
 
-// Count, number and property, behind a header of nh bytes that was found good.
-fn decode_counts(data: &[u8], nh: usize) -> ChunkRead
-    requires { ⌜ (9 + nh ≤ length (now «data»)) × (getD (now «data») 0 0 ≤ 127)
-        × (readU14 (drop 1 (now «data»)) ≡ granted nh) × (isSevenBit (part 3 nh (now «data»)) ≡ true) ⌝ }
+// Is a chunk's number within its count, where that is known?
+fn is_within_count(chunk_num: u16, num_chunks: u16) -> bool
+    ensures { λ r. ⌜ r ≡ withinCount «chunk_num» «num_chunks» ⌝ }
+{
+    if num_chunks == 0 {
+        return true;
+    }
+    chunk_num <= num_chunks
+}
+
+// A chunk of at least nine bytes, all of them up to 7F.
+fn decode_low(data: &[u8]) -> ChunkRead
+    requires { ⌜ (9 ≤ length (now «data»)) × (isSevenBit (now «data») ≡ true) ⌝ }
     ensures { λ r. ⌜ chunkTold r ≡ readFields (now («data» .entry)) ⌝ }
 {
-    let behind = HEADER_AT + nh;
-    if !low_six(data, behind) {
-        return ChunkRead::Refused(PeError::BadField);
+    let nh = u14_at(data, 1) as usize;
+    let property_at = PE_FRAMING_LEN + nh;
+    if data.len() < property_at {
+        return ChunkRead::Refused(PeError::Truncated);
     }
+    let behind = HEADER_AT + nh;
     let num_chunks = u14_at(data, behind);
     let chunk_num = u14_at(data, behind + 2);
     let nd = u14_at(data, behind + 4) as usize;
-    let property_at = PE_FRAMING_LEN + nh;
     if data.len() < property_at + nd {
         return ChunkRead::Refused(PeError::Truncated);
     }
@@ -87,6 +99,9 @@ fn decode_counts(data: &[u8], nh: usize) -> ChunkRead
             return ChunkRead::Refused(PeError::InconsistentChunking);
         }
     }
+    if !is_within_count(chunk_num, num_chunks) {
+        return ChunkRead::Refused(PeError::InconsistentChunking);
+    }
     ChunkRead::Value(ChunkFields {
         request_id: data[0],
         header_len: nh,
@@ -97,27 +112,46 @@ fn decode_counts(data: &[u8], nh: usize) -> ChunkRead
     })
 }
 
+// Why a chunk of at least nine bytes, one of them above 7F, is turned down: behind the fields it is one byte too many or the property's.
+fn high_byte(data: &[u8]) -> PeError
+    requires { ⌜ (9 ≤ length (now «data»)) × (isSevenBit (now «data») ≡ false) ⌝ }
+    ensures { λ r. ⌜ peRefused r ≡ readFields (now («data» .entry)) ⌝ }
+{
+    if data[0] > REQUEST_ID_MAX {
+        return PeError::BadField;
+    }
+    if !low_two(data, 1) {
+        return PeError::BadField;
+    }
+    let nh = u14_at(data, 1) as usize;
+    let property_at = PE_FRAMING_LEN + nh;
+    if data.len() < property_at {
+        return PeError::Truncated;
+    }
+    let behind = HEADER_AT + nh;
+    if !seven_bit::all_seven_bit(&data[HEADER_AT..behind]) {
+        return PeError::BadField;
+    }
+    if !low_six(data, behind) {
+        return PeError::BadField;
+    }
+    if data.len() < property_at + u14_at(data, behind + 4) as usize {
+        return PeError::Truncated;
+    }
+    PeError::BadField
+}
+
+// Reads a chunk. All its bytes are asked at once, since all are up to 7F in a good one; only where one is not, they are asked in their order.
 pub fn decode_fields(data: &[u8]) -> ChunkRead
     ensures { λ r. ⌜ chunkTold r ≡ readFields (now («data» .entry)) ⌝ }
 {
     if data.len() < PE_FRAMING_LEN {
         return ChunkRead::Refused(PeError::Truncated);
     }
-    if data[0] > REQUEST_ID_MAX {
-        return ChunkRead::Refused(PeError::BadField);
+    if all_low(data) {
+        return decode_low(data);
     }
-    if !low_two(data, 1) {
-        return ChunkRead::Refused(PeError::BadField);
-    }
-    let nh = u14_at(data, 1) as usize;
-    if data.len() < PE_FRAMING_LEN + nh {
-        return ChunkRead::Refused(PeError::Truncated);
-    }
-    let header_end = HEADER_AT + nh;
-    if !seven_bit::all_seven_bit(&data[HEADER_AT..header_end]) {
-        return ChunkRead::Refused(PeError::BadField);
-    }
-    decode_counts(data, nh)
+    ChunkRead::Refused(high_byte(data))
 }
 
 // How long a chunk is, or why it can't be written.
@@ -156,10 +190,16 @@ pub(crate) fn questions(
     if !seven_bit::all_seven_bit(header) {
         return ChunkLen::Refused(PeError::BadField);
     }
+    if !seven_bit::all_seven_bit(property) {
+        return ChunkLen::Refused(PeError::BadField);
+    }
     if chunk_num != 1 {
         if header.len() != 0 {
             return ChunkLen::Refused(PeError::InconsistentChunking);
         }
+    }
+    if !is_within_count(chunk_num, num_chunks) {
+        return ChunkLen::Refused(PeError::InconsistentChunking);
     }
     ChunkLen::Bytes(PE_FRAMING_LEN + header.len() + property.len())
 }
@@ -196,6 +236,41 @@ pub(crate) fn fill(
     put_u14(out, behind + 2, chunk_num);
     put_u14(out, behind + 4, property.len() as u16);
     seven_bit::copy_in(out, behind + 6, property);
+}
+
+// Stores a chunk at a place of out, where its numbers have 14 bits and it fits, and else leaves out as it is. Whether its bytes are up to 7F
+// and its numbers go together is not asked: for a caller that has asked it of a whole list.
+pub fn put_chunk(
+    request_id: u8,
+    header: &[u8],
+    num_chunks: u16,
+    chunk_num: u16,
+    property: &[u8],
+    out: &mut [u8],
+    at: usize,
+)
+    ensures { λ _. ⌜ now (out .exit)
+        ≡ putChunk (chunkFrom «request_id» (now (header .entry)) «num_chunks» «chunk_num» (now (property .entry))) (now (out .entry)) at ⌝ }
+{
+    if header.len() > U14_MAX as usize {
+        return;
+    }
+    if property.len() > U14_MAX as usize {
+        return;
+    }
+    if num_chunks > U14_MAX {
+        return;
+    }
+    if chunk_num > U14_MAX {
+        return;
+    }
+    if out.len() < at {
+        return;
+    }
+    if out.len() - at < PE_FRAMING_LEN + header.len() + property.len() {
+        return;
+    }
+    fill(request_id, header, num_chunks, chunk_num, property, out, at);
 }
 
 // Writes a chunk into out; the bytes past it keep their values.

@@ -106,7 +106,8 @@ module _ (p i : ℕ) (b : Model) (o : Open) (f : find p i b ≡ some o) where
   find-arrives : (shape : Shape) (q : ℕ) (c : Chunk) (now-ms : ℕ) → (eqb p q && eqb i (c .request-id)) ≡ false
       → find p i (arrives shape b q c now-ms .model) ≡ some o
   find-arrives shape q c now-ms h =
-      arrives-keeps shape b q c now-ms (λ (m : Model). find p i m ≡ some o) f (λ e left. find-done q (c .request-id) left h)
+      arrives-keeps shape b q c now-ms (λ (m : Model). find p i m ≡ some o) f (λ e.
+      find-done q (c .request-id) (judged shape (touchedAt (find q (c .request-id) b) now-ms) c .left) h)
 
   -- Any other act leaves it open, and what is spared then is spared now.
   pub find-acted : (shape : Shape) (a : Act) (acts : List Act) → isArrival p i a ≡ false → Spared p i (o .time) (a ∷ acts)

@@ -5,13 +5,17 @@ use mathlib.Core.List.{List, [], _∷_, map}
 use mathlib.Core.Path.{_≡_, refl}
 use native.Mathlib.Omega.{arith}
 use lib.Dec.{eqb}
+use Rattle.seven_bit.specs.Reply.{granted}
+use Rattle.pe_chunker.specs.Split.{cutList}
+use Rattle.pe_chunker.proofs.CutLaws.{budget-between}
+use Rattle.pe_chunker.proofs.Theorems.{split-count, split-each}
 use Rattle.pe_reassembler.specs.declared.shape.Shape.{Shape}
 use Rattle.pe_reassembler.specs.Open.{Shown, openSlots}
 use Rattle.pe_run.specs.Lists.{tally}
 use Rattle.pe_run.specs.Model.{Model, isOf, acted}
 use Rattle.pe_run.specs.Calls.{Call, Answer, actOf, modelFrom, modelAfter, shownOf, AllRight}
 use Rattle.pe_run.specs.Run.{Table, LongFor, made, step, tableFrom, Run}
-use Rattle.pe_run.specs.Demand.{fullSize, Demand}
+use Rattle.pe_run.specs.Demand.{fullSize, CutInto, Demand}
 use Rattle.pe_run.proofs.Value.{valueOf, opens}
 use Rattle.pe_run.proofs.ModelLaws.{Four, four-step}
 use Rattle.pe_run.proofs.RowLaws.{open-rows}
@@ -58,6 +62,15 @@ module _ (shape : Shape) where
         tally-shown peer (opens (valueOf shape (tableFrom shape (made shape t) calls))),
       )
       (four-open (k .rel) (four-all [] calls (λ p. omega arith)) peer)
+
+-- A list that is cut into all its chunks at once is one of which delivery speaks.
+pub split-into : (request-id : ℕ) (header body : List ℕ) (limit room places : ℕ) (chunks : List (List ℕ))
+    → cutList request-id header body limit room places ≡ granted chunks → CutInto request-id header body limit chunks
+split-into request-id header body limit room places chunks q =
+    record {
+      count = split-count request-id header body limit room places chunks q;
+      each = λ k l. split-each request-id header body limit room places chunks q k 4096 l (omega (arith, budget-between limit));
+    }
 
 -- ---- full size
 pub demand : Demand

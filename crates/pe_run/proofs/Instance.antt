@@ -6,6 +6,7 @@ use mathlib.Core.List.{List, [], _∷_, map}
 use mathlib.Core.Option.{Option, some}
 use mathlib.Core.Path.{_≡_, refl, sym, ap, subst, _∙_}
 use native.Mathlib.Omega.{arith}
+use borrow.Author.Tests.{le-leb}
 use lib.Dec.{eqb}
 use lib.ListN.{length, getD, drop, length-replicate}
 use Rattle.seven_bit.specs.Reply.{granted, refused}
@@ -13,11 +14,12 @@ use Rattle.seven_bit.specs.SevenBit.{isSevenBit, numberOf}
 use Rattle.midici_core.specs.Header.{within28}
 use Rattle.midici_core.specs.Kinds.{carriesChunk}
 use Rattle.pe_wire.specs.Wire.{readU14}
-use Rattle.pe_frame.specs.Chunk.{Chunk, readFields}
+use Rattle.pe_frame.specs.Chunk.{Chunk, withinCount, readEnd, readFields}
 use Rattle.pe_frame.specs.Write.{chunkBytes, chunkLen, writeWhole}
 use Rattle.pe_frame.proofs.ChunkLaws.{InRange, ask-yes}
 use Rattle.pe_frame.proofs.RoundTrip.{bytes-read, bytes-chunk, whole-then-read, read-bytes-are, fields}
-use Rattle.pe_slot.specs.Slot.{Piece, held, allHeld, bodyLen, isWhole, eventOf, headerFits, sameHeader, headerAgrees, noneKnown, newHeader, countAgrees, newCount, afterChunk, passed, judge}
+use Rattle.pe_slot.specs.Slot.{Piece, held, allHeld, bodyLen, isWhole, eventOf, headerFits, sameHeader, headerAgrees, noneKnown, newHeader}
+use Rattle.pe_slot.specs.Slot.{heldWithin, countAgrees, newCount, afterChunk, passed, judge}
 use Rattle.pe_chunker.specs.Cut.{clamped, budget, laterCapacity, firstCapacity, askFirst, cutUp, bodyPieces, chunkAt, askCut, cutCount, cutChunk}
 use Rattle.pe_chunker.proofs.CutLaws.{budget-between}
 use Rattle.pe_chunker.proofs.Theorems.{fields-in-range, budget-is-room}
@@ -25,7 +27,7 @@ use Rattle.pe_reassembler.specs.Open.{Perm, swap}
 use Rattle.pe_reassembler.specs.Table.{isMuid}
 use Rattle.pe_run.specs.Model.{Entry, Model, findsRecord, hasFour, judged, arrives}
 use Rattle.pe_run.specs.Calls.{Arrival, arrival, actOf, hasOutputs, fedArrival, messageArrival, modelAfter}
-use Rattle.pe_run.specs.Instance.{lentHeader, lentBody, header, body, one, two, oneInMessage, torn, other, before, firstCall, rest}
+use Rattle.pe_run.specs.Instance.{lentHeader, lentBody, header, body, one, two, oneInMessage, torn, other, stray, before, firstCall, rest}
 use Rattle.pe_run.specs.Demand.{fullSize, CutInto, ours, Room, Spared, Delivery}
 
 header-long : length lentHeader ≡ 4096
@@ -80,17 +82,34 @@ two-in-range : InRange two
 two-in-range = subst InRange second-chunk (fields-in-range 5 header body 128 2 2 cut-count (omega arith) (omega arith))
 
 -- ---- others
-other-in-range : (request-id number : ℕ) → request-id ≤ 127 → number ≤ 16383 → InRange (other request-id number)
-unfolding isSevenBit
+other-in-range : (request-id number : ℕ) → request-id ≤ 127 → number ≤ 3 → InRange (other request-id number)
+unfolding isSevenBit withinCount
 other-in-range request-id number i n =
     record {
       id = i;
       header-len = omega arith;
       property-len = omega arith;
       count = omega arith;
-      number = n;
+      number = omega arith;
       header-bytes = refl;
+      property-bytes = refl;
       first = or-true (eqb number 1);
+      within = le-leb number 3 n;
+    }
+
+stray-in-range : InRange stray
+unfolding isSevenBit withinCount
+stray-in-range =
+    record {
+      id = omega arith;
+      header-len = omega arith;
+      property-len = omega arith;
+      count = omega arith;
+      number = omega arith;
+      header-bytes = refl;
+      property-bytes = refl;
+      first = refl;
+      within = refl;
     }
 
 -- ---- the first chunk in a message
@@ -118,8 +137,11 @@ arrives-8 = fed-arrives 8 (other 5 2) 150 refl (other-in-range 5 2 (omega arith)
 pub arrives-9 : fedArrival (fullSize 2) 9 (chunkBytes (other 6 1)) 200 lentHeader lentBody ≡ granted (bearing 9 (other 6 1) 200)
 arrives-9 = fed-arrives 9 (other 6 1) 200 refl (other-in-range 6 1 (omega arith) (omega arith))
 
+pub arrives-stray : fedArrival (fullSize 2) 9 (chunkBytes stray) 250 lentHeader lentBody ≡ granted (bearing 9 stray 250)
+arrives-stray = fed-arrives 9 stray 250 refl stray-in-range
+
 pub torn-refused : fedArrival (fullSize 2) 9 torn 300 lentHeader lentBody ≡ refused 2 0
-unfolding fedArrival readFields readU14 isSevenBit numberOf
+unfolding fedArrival readFields readEnd readU14 isSevenBit numberOf
 torn-refused = rw outputs-long refl
 
 -- ---- what is open when the first of them comes
@@ -134,8 +156,8 @@ abbrev pub open-before : Model
 open-before = entry 9 6 10 (some []) 3 (piece 1 (9 ∷ []) ∷ []) ∷ entry 8 5 0 (some []) 3 (piece 1 (9 ∷ []) ∷ []) ∷ []
 
 pub before-is : modelAfter (fullSize 2) before ≡ open-before
-unfolding arrives findsRecord hasFour judged judge headerFits headerAgrees sameHeader countAgrees newHeader newCount noneKnown held bodyLen
-    afterChunk passed isWhole allHeld eventOf
+unfolding arrives findsRecord hasFour judged judge headerFits headerAgrees sameHeader withinCount heldWithin countAgrees newHeader newCount noneKnown held
+    bodyLen afterChunk passed isWhole allHeld eventOf
 before-is = rw (arrives-before-8, arrives-before-9) refl
 
 instance-room : Room 2 9 5 (modelAfter (fullSize 2) before)
@@ -143,10 +165,10 @@ unfolding findsRecord
 instance-room = rw before-is (record { record-found = refl; not-open = refl; fewer = omega arith })
 
 instance-once : Perm (map (λ (a : Arrival). a .bytes) (ours (fullSize 2) 9 5 (firstCall ∷ rest))) (chunkBytes one ∷ chunkBytes two ∷ [])
-instance-once = rw (arrives-first, arrives-8, arrives-9, torn-refused, message-arrives) swap
+instance-once = rw (arrives-first, arrives-8, arrives-9, arrives-stray, torn-refused, message-arrives) swap
 
 instance-spared : Spared 9 5 0 (map (actOf (fullSize 2)) (firstCall ∷ rest))
-instance-spared = rw (arrives-first, arrives-8, arrives-9, torn-refused, message-arrives) (omega arith, (omega arith, (refl, (refl, tt))))
+instance-spared = rw (arrives-first, arrives-8, arrives-9, arrives-stray, torn-refused, message-arrives) (omega arith, (omega arith, (refl, (refl, tt))))
 
 pub instance : Delivery 2 (modelAfter (fullSize 2) before) 9 5 header body 128 firstCall rest
 instance =

@@ -8,7 +8,9 @@ use native.Mathlib.Omega.{arith}
 use lib.ListN.{length, drop, replicate, length-replicate}
 use Rattle.seven_bit.specs.Parts.{joined}
 use Rattle.seven_bit.specs.Reply.{Reply, granted, refused}
-use Rattle.pe_slot.specs.Slot.{held, allHeld, bodyLen, isWhole, Event, waiting, whole, eventOf, headerFits, sameHeader, eqList, headerAgrees, noneKnown, newHeader, countAgrees, newCount, afterChunk, passed, judge, insert, inOrder, bodyOf}
+use Rattle.pe_slot.specs.Slot.{held, allHeld, bodyLen, isWhole, Event, waiting, whole, eventOf, headerFits, sameHeader, eqList, headerAgrees}
+use Rattle.pe_slot.specs.Slot.{noneKnown, newHeader, heldWithin, countAgrees, newCount, afterChunk, passed, judge, insert, inOrder, bodyOf}
+use Rattle.pe_frame.specs.Chunk.{withinCount}
 use Rattle.pe_slot.specs.Feed.{toldAnswer, outHeader, outBody}
 use Rattle.pe_reassembler.specs.Calls.{reservedOf}
 use Rattle.pe_reassembler.specs.Table.{numbersLen}
@@ -17,13 +19,14 @@ use Rattle.pe_run.specs.Model.{Entry, Model, isLate, findsRecord, hasFou
 use Rattle.pe_run.specs.Calls.{Call, Answer, fed, timed-out, Arrival, grantedOf, arrivalOf, actOf, Key, keyOf, TimedOut, Right, AllRight}
 use Rattle.pe_run.specs.Run.{Table, made, tableFrom, Run}
 use Rattle.pe_run.specs.Demand.{fullSize, LongEnough}
-use Rattle.pe_run.specs.Instance.{lentMemory, places, header, body, one, two, other, before, firstCall, rest, answers}
+use Rattle.pe_run.specs.Instance.{lentMemory, places, header, body, one, two, other, stray, before, firstCall, rest, answers}
 use Rattle.pe_run.proofs.PermLaws.{perm-length}
 use Rattle.pe_run.proofs.Ahead.{long-enough}
 use Rattle.pe_run.proofs.Carried.{act-arrives, answer-arrives}
 use Rattle.pe_run.proofs.Demand.{answers-right}
 use Rattle.pe_run.proofs.Answered.{answered}
-use Rattle.pe_run.proofs.Instance.{bearing, arrives-first, arrives-8, arrives-9, torn-refused, message-arrives, entry, piece, open-before, before-is}
+use Rattle.pe_run.proofs.Instance.{bearing, arrives-first, arrives-8, arrives-9, arrives-stray, torn-refused, message-arrives, entry, piece}
+use Rattle.pe_run.proofs.Instance.{open-before, before-is}
 
 -- ---- one call after the other
 record Gives (b : Model) (calls : List Call) (xs : List Answer) : Type 0 where
@@ -84,23 +87,31 @@ open-two = their-open ∷ ours-open ∷ entry 9 6 10 (some []) 3 (piece 1 (9 ∷
 abbrev open-all : Model
 open-all = entry 9 6 200 (some []) 3 (piece 1 (9 ∷ []) ∷ []) ∷ their-open ∷ ours-open ∷ []
 
+abbrev open-later : Model
+open-later = entry 9 6 250 (some []) 3 (piece 1 (9 ∷ []) ∷ []) ∷ their-open ∷ ours-open ∷ []
+
 takes-first : arrives (fullSize 2) open-before 9 two 100 ≡ record { model = ours-open ∷ open-before; answer = granted waiting }
-unfolding arrives findsRecord hasFour judged judge headerFits headerAgrees sameHeader countAgrees newHeader newCount noneKnown held bodyLen
-    afterChunk passed isWhole allHeld eventOf
+unfolding arrives findsRecord hasFour judged judge headerFits headerAgrees sameHeader withinCount heldWithin countAgrees newHeader newCount noneKnown held
+    bodyLen afterChunk passed isWhole allHeld eventOf
 takes-first = refl
 
 takes-8 : arrives (fullSize 2) (ours-open ∷ open-before) 8 (other 5 2) 150 ≡ record { model = open-two; answer = granted waiting }
-unfolding arrives findsRecord hasFour judged judge headerFits headerAgrees sameHeader countAgrees newHeader newCount noneKnown held bodyLen
-    afterChunk passed isWhole allHeld eventOf
+unfolding arrives findsRecord hasFour judged judge headerFits headerAgrees sameHeader withinCount heldWithin countAgrees newHeader newCount noneKnown held
+    bodyLen afterChunk passed isWhole allHeld eventOf
 takes-8 = refl
 
 takes-9 : arrives (fullSize 2) open-two 9 (other 6 1) 200 ≡ record { model = open-all; answer = refused 8 0 }
-unfolding arrives findsRecord hasFour judged judge headerFits headerAgrees sameHeader eqList countAgrees newHeader newCount noneKnown held
+unfolding arrives findsRecord hasFour judged judge headerFits headerAgrees sameHeader eqList withinCount heldWithin countAgrees newHeader newCount noneKnown held
     bodyLen afterChunk passed isWhole allHeld eventOf
 takes-9 = refl
 
+takes-stray : arrives (fullSize 2) open-all 9 stray 250 ≡ record { model = open-later; answer = refused 8 0 }
+unfolding arrives findsRecord hasFour judged judge headerFits headerAgrees sameHeader withinCount heldWithin countAgrees newHeader newCount
+    noneKnown held bodyLen afterChunk passed isWhole allHeld eventOf
+takes-stray = refl
+
 takes-last : arrives (fullSize 2) (ours-open ∷ []) 9 one 9000 ≡ record { model = []; answer = granted (whole header body) }
-unfolding arrives findsRecord hasFour judged judge headerFits headerAgrees sameHeader countAgrees newHeader newCount noneKnown held
+unfolding arrives findsRecord hasFour judged judge headerFits headerAgrees sameHeader withinCount heldWithin countAgrees newHeader newCount noneKnown held
     bodyLen afterChunk passed isWhole allHeld eventOf insert inOrder joined bodyOf
 takes-last = refl
 
@@ -110,14 +121,15 @@ told-from =
     next-chunk (bearing 9 two 100) (ours-open ∷ open-before) (granted waiting) (ap grantedOf arrives-first) takes-first
     (next-chunk (bearing 8 (other 5 2) 150) open-two (granted waiting) (ap grantedOf arrives-8) takes-8
     (next-chunk (bearing 9 (other 6 1) 200) open-all (refused 8 0) (ap grantedOf arrives-9) takes-9
-    (next open-all (λ a e. e) refl
-    (next open-all (λ a e. none-late open-all 3099 a refl e) refl
-    (next open-all (λ a e. e) refl
-    (next open-all (λ a e. e ∙ rw torn-refused refl) (rw torn-refused refl)
-    (next open-all (λ a e. none-late open-all 50 a refl e) refl
+    (next-chunk (bearing 9 stray 250) open-later (refused 8 0) (ap grantedOf arrives-stray) takes-stray
+    (next open-later (λ a e. e) refl
+    (next open-later (λ a e. none-late open-later 3099 a refl e) refl
+    (next open-later (λ a e. e) refl
+    (next open-later (λ a e. e ∙ rw torn-refused refl) (rw torn-refused refl)
+    (next open-later (λ a e. none-late open-later 50 a refl e) refl
     (next (their-open ∷ ours-open ∷ []) (λ a e. e) refl
     (next (ours-open ∷ []) (λ a e. e) refl
-    (next-chunk (bearing 9 one 9000) [] (granted (whole header body)) (ap grantedOf message-arrives) takes-last done))))))))))
+    (next-chunk (bearing 9 one 9000) [] (granted (whole header body)) (ap grantedOf message-arrives) takes-last done)))))))))))
 
 -- Whatever memory the table was made of, these are the answers, and the run gets them.
 pub instance-told : (t : Table) → LongEnough 2 t → (told : List Answer)

@@ -32,3 +32,4 @@ pub mod Demand
 pub mod Answered
 pub mod Instance
 pub mod InstanceTold
+pub mod Strays

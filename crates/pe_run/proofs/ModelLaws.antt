@@ -134,7 +134,8 @@ module _ (shape : Shape) (b : Model) (peer : ℕ) (c : Chunk) (now-ms : ℕ) whe
 
   -- what holds of the model, and of it with what a chunk leaves, holds after a chunk
   pub arrives-keeps : (P : Model → Type 0) → P b
-      → (hasFour peer (c .request-id) b ≡ false → (o : Option Open) → P (entryOf peer (c .request-id) o ++ without peer (c .request-id) b))
+      → (hasFour peer (c .request-id) b ≡ false
+      → P (entryOf peer (c .request-id) (judged shape (touchedAt (find peer (c .request-id) b) now-ms) c .left) ++ without peer (c .request-id) b))
       → P (arrives shape b peer c now-ms .model)
   arrives-keeps P same changed = go arrives-cases
     where
@@ -142,8 +143,7 @@ module _ (shape : Shape) (b : Model) (peer : ℕ) (c : Chunk) (now-ms : ℕ) whe
           ⊎ ((arrives shape b peer c now-ms ≡ record { model = b; answer = refused 6 0 }) ⊎ Reaches) → P (arrives shape b peer c now-ms .model)
       go (inl e) = subst (λ (a : Arrived). P (a .model)) (sym e) same
       go (inr (inl e)) = subst (λ (a : Arrived). P (a .model)) (sym e) same
-      go (inr (inr e)) =
-          subst (λ (a : Arrived). P (a .model)) (sym (e .1)) (changed (e .0) (judged shape (touchedAt (find peer (c .request-id) b) now-ms) c .left))
+      go (inr (inr e)) = subst (λ (a : Arrived). P (a .model)) (sym (e .1)) (changed (e .0))
 
 -- ---- at most four
 abbrev pub Four : Model → Type 0
@@ -182,7 +182,9 @@ four-arrived peer id b (some y) h e other = go (both (eqb other peer)) (find pee
     go (inr a) o w = rw a (four-keep (λ (z : Entry). not (isAt peer id z)) b h other)
 
 pub four-step : (shape : Shape) (b : Model) (act : Act) → Four b → Four (acted shape b act)
-four-step shape b (arrive peer c now-ms) h = arrives-keeps shape b peer c now-ms Four h (λ e o. four-arrived peer (c .request-id) b o h e)
+four-step shape b (arrive peer c now-ms) h =
+    arrives-keeps shape b peer c now-ms Four h (λ e.
+    four-arrived peer (c .request-id) b (judged shape (touchedAt (find peer (c .request-id) b) now-ms) c .left) h e)
 four-step shape b (cancel peer id) h = four-keep (λ (e : Entry). not (isAt peer id e)) b h
 four-step shape b (drop peer) h = four-keep (λ (e : Entry). not (isOf peer e)) b h
 four-step shape b (poll now-ms) h = four-keep (λ (e : Entry). not (isLate now-ms e)) b h

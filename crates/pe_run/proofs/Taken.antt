@@ -1,7 +1,7 @@
 -- What a slot that holds some chunks of a list does with the next one.
 -- Assumes nothing.
 use Prim.Native.Nat.{ℕ, _+_, _≤_}
-use mathlib.Core.Bool.{Bool, true, false, cond, not, _&&_, _||_}
+use mathlib.Core.Bool.{Bool, true, false, cond, not, _&&_, _||_, or-true}
 use mathlib.Core.List.{List, [], _∷_, _++_, map, map-append}
 use mathlib.Core.Logic.{_⊎_, inl, inr}
 use mathlib.Core.Option.{Option, none, some}
@@ -12,13 +12,14 @@ use lib.Dec.{leb, ltb, eqb}
 use lib.ListN.{length, length-append, length-map}
 use Rattle.seven_bit.specs.Reply.{granted}
 use Rattle.seven_bit.proofs.ReplyLaws.{both}
-use Rattle.pe_frame.specs.Chunk.{Chunk}
-use Rattle.pe_slot.specs.Slot.{Slot, Verdict, slotAfter, held, allHeld, bodyLen, isWhole, Event, waiting, whole, eventOf, headerFits, sameHeader, headerAgrees, noneKnown, newHeader, countAgrees, newCount, afterChunk, passed, judge}
+use Rattle.pe_frame.specs.Chunk.{Chunk, withinCount}
+use Rattle.pe_slot.specs.Slot.{Slot, Verdict, slotAfter, held, allHeld, bodyLen, isWhole, Event, waiting, whole, eventOf, headerFits, sameHeader}
+use Rattle.pe_slot.specs.Slot.{headerAgrees, noneKnown, newHeader, heldWithin, countAgrees, newCount, afterChunk, passed, judge}
 use Rattle.pe_slot.proofs.OrderHeldLaws.{all-yes, all-no}
 use Rattle.pe_run.specs.Lists.{memb}
 use Rattle.pe_run.specs.Model.{Open, Judged, judged}
 use Rattle.pe_run.specs.Demand.{fullSize}
-use Rattle.pe_run.proofs.ListLaws.{eqb-sym, all-middle, memb-append, distinct-middle}
+use Rattle.pe_run.proofs.ListLaws.{All, eqb-sym, all-first, all-middle, memb-append, distinct-middle}
 use Rattle.pe_run.proofs.Pieces.{numOf, held-memb, body-len-append}
 use Rattle.pe_run.proofs.Chunks.{pieceIn, piecesIn, numbers, Of, Good}
 
@@ -73,6 +74,20 @@ slotWith header n cs = record { header = headerWith header cs; count = n; pieces
 numbers-append : (cs ds : List Chunk) → numbers (cs ++ ds) ≡ numbers cs ++ numbers ds
 numbers-append cs ds = ap (map numOf) (map-append pieceIn cs ds) ∙ map-append numOf (piecesIn cs) (piecesIn ds)
 
+-- a number of the list is within the count, where that is known, and so are those that are held
+within : (k n count : ℕ) → k ≤ n → (eqb count 0 || eqb count n) ≡ true → withinCount k count ≡ true
+unfolding withinCount
+within k n count h q = go (both (eqb count 0))
+  where
+    go : (eqb count 0 ≡ true) ⊎ (eqb count 0 ≡ false) → (eqb count 0 || leb k count) ≡ true
+    go (inl e) = rw e
+    go (inr e) = let m : eqb count n ≡ true = rw e at q in rw (e, le-leb k count (omega (arith, eqb-true count n m)))
+
+held-within : (n : ℕ) (header : List ℕ) (count : ℕ) (cs : List Chunk) → count ≡ n → All (Of header n) cs → heldWithin count (piecesIn cs) ≡ true
+unfolding heldWithin
+held-within n header count [] e a = refl
+held-within n header count (c ∷ cs) e a = rw (le-leb (c .chunk-num) count (omega (arith, a .0 .high))) (held-within n header count cs e (a .1))
+
 module _ {n : ℕ} {header body : List ℕ} (held-now : List Chunk) (c : Chunk) (rest : List Chunk) (g : Good header body n (held-now ++ c ∷ rest)) where
   of : Of header n c
   of = all-middle (Of header n) held-now c rest (g .members)
@@ -93,13 +108,22 @@ module _ {n : ℕ} {header body : List ℕ} (held-now : List Chunk) (c : Chunk) 
       record {
         fits = fits (both (eqb (c .chunk-num) 1));
         agrees = agrees (both (eqb (c .chunk-num) 1));
-        counts = rw (of .count-is, ne-eqb n 0 (omega (arith, g .some-chunks))) k;
+        counts =
+            rw (
+              same,
+              within (c .chunk-num) n count (of .high) k,
+              held-within n header (c .num-chunks) held-now (of .count-is) (all-first (Of header n) held-now (c ∷ rest) (g .members)),
+            )
+            (or-true (not (newCount (slotWith header count held-now) c)));
         named = ne-eqb (c .chunk-num) 0 (omega (arith, of .low));
         fresh = not-held;
         few = lt-ltb (length (piecesIn held-now)) 2048 (omega (arith, length-map held-now pieceIn, length-append held-now (c ∷ rest), g .long, g .few));
         roomy = le-leb (bodyLen (piecesIn held-now) + length (c .property)) 65536 room;
       }
     where
+      same : (eqb (c .num-chunks) 0 || eqb count 0 || eqb count (c .num-chunks)) ≡ true
+      same = rw (of .count-is, ne-eqb n 0 (omega (arith, g .some-chunks))) k
+
       room : bodyLen (piecesIn held-now) + length (c .property) ≤ 65536
       room =
           unfold bodyLen in

@@ -30,7 +30,8 @@ pub record LongEnough (n : ℕ) (t : Table) : Type 0 where
   pub arenas : 262144 * n ≤ length (t .arenas)
 
 -- "A list's frames are those that the cutter .. writes by module 6 and **Cut**'s questions from one id, header, body and limit, for each k
--- from 1 to the count, none refused." Any buffer of 4,096 bytes is long enough for them.
+-- from 1 to the count, none refused." Any buffer of 4,096 bytes is long enough for them. Document 02, K3: "a list promised to arrive whole has a
+-- body of bytes up to 7F": the cutter's own questions ask that, so that no hypothesis below is needed for it.
 pub record CutInto (request-id : ℕ) (header body : List ℕ) (limit : ℕ) (chunks : List (List ℕ)) : Type 0 where
   pub count : cutCount request-id header body limit ≡ granted (length chunks)
   pub each : (k : ℕ) → k < length chunks → cutChunk request-id header body limit (suc k) 4096 ≡ granted (getD chunks k [])

@@ -1,6 +1,6 @@
 -- A run that meets every hypothesis of a delivery, and the answers that it gets: the second chunk comes first and bare, the first one last and in a
--- message, and in between another peer under the same request id, a chunk that is held already, a torn one, a poll just in time, a late one that is
--- refused for its short output, a clock that goes back, a cancel of another request id and a drop of another peer.
+-- message, and in between another peer under the same request id, a chunk that is held already, one beyond the count, a torn one, a poll just in
+-- time, a late one that is refused for its short output, a clock that goes back, a cancel of another request id and a drop of another peer.
 -- Assumes nothing.
 use Prim.Native.Nat.{ℕ}
 use mathlib.Core.Bool.{true}
@@ -53,6 +53,10 @@ torn = 5 ∷ 0 ∷ 0 ∷ 2 ∷ 0 ∷ 2 ∷ 0 ∷ 3 ∷ 0 ∷ 10 ∷ 20 ∷ []
 abbrev pub other : ℕ → ℕ → Chunk
 other request-id number = chunkFrom request-id [] 3 number (9 ∷ [])
 
+-- ---- and one of a number above that count, which it does not name
+abbrev pub stray : Chunk
+stray = chunkFrom 6 [] 0 4 (9 ∷ [])
+
 -- ---- the calls
 abbrev pub before : List Call
 before =
@@ -69,6 +73,7 @@ abbrev pub rest : List Call
 rest =
     feed 8 (chunkBytes (other 5 2)) 150 lentHeader lentBody
     ∷ feed 9 (chunkBytes (other 6 1)) 200 lentHeader lentBody
+    ∷ feed 9 (chunkBytes stray) 250 lentHeader lentBody
     ∷ memory-stats
     ∷ poll 3099 places places
     ∷ poll 9000 places []
@@ -84,6 +89,7 @@ abbrev pub answers : List Answer
 answers =
     fed (granted still) lentHeader lentBody
     ∷ fed (granted still) lentHeader lentBody
+    ∷ fed (refused 8 0) lentHeader lentBody
     ∷ fed (refused 8 0) lentHeader lentBody
     ∷ totals (granted (record { reserved-bytes = 688128; active-bytes = 38; active-slots = 3 }))
     ∷ timed-out (granted 0) places places

@@ -10,13 +10,13 @@ use borrow.Author.Tests.{leb-true, ltb-true}
 use lib.Dec.{leb, ltb, eqb}
 use lib.ListN.{length, take}
 use lib.Seq.{length-take-le}
-use Rattle.pe_frame.specs.Chunk.{Chunk}
+use Rattle.pe_frame.specs.Chunk.{Chunk, withinCount}
 use Rattle.pe_slot.specs.declared.layout.TxSlot.{TxSlot}
 use Rattle.pe_slot.specs.Slot.{Slot, Verdict, stays, closing, _otherwise_then_, storing, taking, bodyLen, eqList, noneKnown, sameHeader, headerFits, headerAgrees, newHeader, countAgrees, newCount, afterChunk, passed, judge}
 use Rattle.pe_slot.specs.Memory.{piecesOf, contents, endsAt}
-use Rattle.pe_slot.specs.Records.{holds}
+use Rattle.pe_slot.specs.Records.{holds, upTo}
 use Rattle.pe_slot.proofs.RecordLaws.{body-ends}
-use Rattle.pe_slot.proofs.SlotMemory.{holds-held, pieces-length}
+use Rattle.pe_slot.proofs.SlotMemory.{holds-held, up-to-within, pieces-length}
 
 -- the questions of the piece, and of the count before them; next is the slot with the piece
 abbrev pub pieceBy : Bool → Bool → Bool → Bool → Slot → Verdict
@@ -83,11 +83,14 @@ module _ (t : TxSlot) (index header arena : List ℕ) (c : Chunk) where
   abbrev same : Bool
   same = eqList (take (t .«header_len») header) (c .header)
 
-  abbrev counts : Bool
-  counts = eqb (c .num-chunks) 0 || eqb (t .«num_chunks») 0 || eqb (t .«num_chunks») (c .num-chunks)
-
-  abbrev takes : Bool
+  abbrev pub takes : Bool
   takes = not (eqb (c .num-chunks) 0) && eqb (t .«num_chunks») 0
+
+  abbrev pub counts : Bool
+  counts =
+      (eqb (c .num-chunks) 0 || eqb (t .«num_chunks») 0 || eqb (t .«num_chunks») (c .num-chunks))
+      && withinCount (c .chunk-num) (t .«num_chunks»)
+      && (not takes || upTo (c .num-chunks) (take (t .«index_len») index))
 
   abbrev holding : Bool
   holding = holds (c .chunk-num) (take (t .«index_len») index)
@@ -121,6 +124,7 @@ module _ (t : TxSlot) (index header arena : List ℕ) (c : Chunk) where
         none-known (eqb (t .«header_set») 0) (take (t .«header_len») header),
         same-known (eqb (t .«header_set») 0) (take (t .«header_len») header) (c .header),
         holds-held (c .chunk-num) records arena,
+        up-to-within (c .num-chunks) records arena,
         n,
         m,
       )

@@ -17,3 +17,4 @@ pub mod StepLaws
 pub mod StepEnds
 pub mod FeedAsked
 pub mod FeedTheorems
+pub mod WithinLaws

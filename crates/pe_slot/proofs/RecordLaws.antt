@@ -7,7 +7,7 @@ use mathlib.Core.List.{List, [], _∷_, map}
 use mathlib.Core.Option.{Option, none, some}
 use native.Mathlib.Omega.{arith}
 use native.Mathlib.Numerals.{add-one}
-use borrow.Author.Tests.{eqb-true}
+use borrow.Author.Tests.{le-leb, lt-leb, eqb-true}
 use lib.Dec.{leb, eqb}
 use lib.ListN.{length, getD, take, drop, length-append}
 use lib.Seq.{slice, slice-cons, slice-empty}
@@ -15,7 +15,7 @@ use Rattle.seven_bit.specs.Parts.{part, put, putFit, joined}
 use Rattle.seven_bit.proofs.PartLaws.{fit-yes, length-part}
 use Rattle.pe_slot.specs.Slot.{Piece, bodyLen, insert, inOrder, bodyOf}
 use Rattle.pe_slot.specs.Memory.{metaNumber, metaLen, metaOffset, endsAt, pieceOf, piecesOf}
-use Rattle.pe_slot.specs.Records.{holds}
+use Rattle.pe_slot.specs.Records.{holds, upTo}
 
 -- ---- one pass: a record more
 lay : (t u : Bool) (more : Option ℕ) → cond t (cond u more none) none ≡ cond (t && u) more none
@@ -39,6 +39,15 @@ module _ (index : List ℕ) (len i : ℕ) (l : i < len) (r : len ≤ length inde
   unfolding holds
   pass-held n held = rw (slice-cons i len index 0, add-one) (meet held (eqb (metaNumber (getD index i 0)) n) _)
 
+  -- a number up to n is passed over, and one above it decides
+  pub pass-within : (n : ℕ) → metaNumber (getD index i 0) ≤ n → upTo n (slice i len index) ≡ upTo n (slice (i + 1) len index)
+  unfolding upTo
+  pass-within n h = rw (slice-cons i len index 0, add-one, le-leb _ _ h)
+
+  pub pass-above : (n : ℕ) → n < metaNumber (getD index i 0) → upTo n (slice i len index) ≡ false
+  unfolding upTo
+  pass-above n h = rw (slice-cons i len index 0, lt-leb _ _ h)
+
 -- and none left
 pub pass-over : (index : List ℕ) (len i : ℕ) → len ≤ i → i ≤ len → slice i len index ≡ []
 pass-over index len i h g =
@@ -56,6 +65,10 @@ holds-none n held xs e = rw e (same held)
     same : (t : Bool) → (t || false) ≡ t
     same true = refl
     same false = refl
+
+pub up-to-none : (n : ℕ) (xs : List ℕ) → xs ≡ [] → upTo n xs ≡ true
+unfolding upTo
+up-to-none n xs e = rw e
 
 -- ---- the bytes of a record, copied
 pub piece-put : (out arena : List ℕ) (at offset len : ℕ) → offset + len ≤ length arena → at + len ≤ length out

@@ -1,21 +1,21 @@
 -- The laws of a slot's memory: records that lie end to end, the pieces that they name, and one record more.
 -- Assumes nothing.
 use Prim.Native.Nat.{ℕ, _+_, _<_, _≤_}
-use mathlib.Core.Bool.{Bool, true, cond}
+use mathlib.Core.Bool.{Bool, true, cond, _&&_}
 use mathlib.Core.List.{List, [], _∷_, _++_, map-append}
 use mathlib.Core.Option.{some}
 use mathlib.Core.Path.{_≡_, refl, sym, ap, _∙_}
 use native.Mathlib.Numerals.{add-one}
 use native.Mathlib.Omega.{arith}
 use borrow.Author.Tests.{eq-eqb}
-use lib.Dec.{eqb}
+use lib.Dec.{leb, eqb}
 use lib.ListN.{length, take, drop, set, length-map, take-append-drop}
 use lib.Seq.{take-suc-set, length-take-le}
 use Rattle.seven_bit.specs.Parts.{part, splice}
 use Rattle.seven_bit.proofs.PartLaws.{part-splice, part-front}
-use Rattle.pe_slot.specs.Slot.{Piece, held}
+use Rattle.pe_slot.specs.Slot.{Piece, held, heldWithin}
 use Rattle.pe_slot.specs.Memory.{packed, metaNumber, metaLen, metaOffset, pieceOf, piecesOf, endsAt}
-use Rattle.pe_slot.specs.Records.{holds}
+use Rattle.pe_slot.specs.Records.{holds, upTo}
 use Rattle.pe_slot.proofs.RecordLaws.{ends-cons, ends-after}
 
 -- a record, packed and taken apart
@@ -45,6 +45,11 @@ pub holds-held : (n : ℕ) (records arena : List ℕ) → held n (piecesOf recor
 unfolding held holds piecesOf pieceOf
 holds-held n [] arena = refl
 holds-held n (x ∷ xs) arena = ap (λ (b : Bool). cond (eqb (metaNumber x) n) true b) (unfold piecesOf in (holds-held n xs arena))
+
+pub up-to-within : (n : ℕ) (records arena : List ℕ) → heldWithin n (piecesOf records arena) ≡ upTo n records
+unfolding heldWithin upTo piecesOf pieceOf
+up-to-within n [] arena = refl
+up-to-within n (x ∷ xs) arena = ap (λ (b : Bool). leb (metaNumber x) n && b) (unfold piecesOf in (up-to-within n xs arena))
 
 pub pieces-length : (records arena : List ℕ) → length (piecesOf records arena) ≡ length records
 unfolding piecesOf

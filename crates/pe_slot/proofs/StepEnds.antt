@@ -1,7 +1,7 @@
 -- The laws of a feed's ends: memory is sound after each step, and what a step leaves at a no, or the last one, is what the slot's questions say.
 -- Assumes nothing.
 use Prim.Native.Nat.{ℕ, _+_, _<_, _≤_}
-use mathlib.Core.Bool.{Bool, true, false, cond, not}
+use mathlib.Core.Bool.{Bool, true, false, cond, not, _&&_, _||_}
 use mathlib.Core.List.{List}
 use mathlib.Core.Path.{_≡_, refl, sym, ap, _∙_, subst}
 use native.Mathlib.Omega.{arith}
@@ -16,7 +16,7 @@ use Rattle.pe_slot.specs.declared.layout.TxSlot.{TxSlot}
 use Rattle.pe_slot.specs.Layout.{numChunksAt, headerSetAt, headerLenAt, indexLenAt, propertyBytesAt}
 use Rattle.pe_slot.specs.Slot.{Verdict, eqList, passed, judge}
 use Rattle.pe_slot.specs.Memory.{slotOf, wordsOf, packed, contents}
-use Rattle.pe_slot.specs.Records.{holds}
+use Rattle.pe_slot.specs.Records.{holds, upTo}
 use Rattle.pe_slot.specs.Feed.{cleared, Told, still, SlotLeft, slotLeft, grown, placed}
 use Rattle.pe_slot.specs.Steps.{Ready, HeaderTaken, headerTaken, takeHeader, CountTaken, countTaken, takeCount, PieceAdded, pieceAdded, addPiece, Finished, finished, finishOf}
 use Rattle.pe_slot.proofs.SlotMemory.{ends-grown}
@@ -58,16 +58,20 @@ module _ (t : TxSlot) {index header arena out-header out-body : List ℕ} (ready
             body-room = ready .body-room;
           }
 
-  count-ready : (count : ℕ) → Ready (takeCount (wordsOf t) count .words) index header arena out-header out-body
+  count-ready : (count number : ℕ) → Ready (takeCount (wordsOf t) index count number .words) index header arena out-header out-body
   unfolding takeCount
-  count-ready count = go (eqb count 0) (eqb (t .«num_chunks») 0)
+  count-ready count number = go (eqb (t .«num_chunks») 0) (eqb count 0) (upTo count (take (t .«index_len») index))
     where
-      go : (n k : Bool)
-          → Ready
-          (cond n (countTaken true (wordsOf t)) (cond k (countTaken true (set (wordsOf t) numChunksAt count)) (countTaken (eqb (t .«num_chunks») count) (wordsOf t))) .words)
-          index header arena out-header out-body
-      go true k = ready
-      go false true =
+      go : (k n u : Bool)
+          → (let x : CountTaken =
+          cond k
+          (cond n (countTaken true (wordsOf t)) (cond u (countTaken true (set (wordsOf t) numChunksAt count)) (countTaken false (wordsOf t))))
+          (countTaken ((eqb count 0 || eqb (t .«num_chunks») count) && leb number (t .«num_chunks»)) (wordsOf t)) in
+          Ready (x .words) index header arena out-header out-body)
+      go false n u = ready
+      go true true u = ready
+      go true false false = ready
+      go true false true =
           record {
             nine = refl;
             head = ready .head;
@@ -79,7 +83,6 @@ module _ (t : TxSlot) {index header arena out-header out-body : List ℕ} (ready
             header-room = ready .header-room;
             body-room = ready .body-room;
           }
-      go false false = ready
 
   piece-ready : (number : ℕ) (property : List ℕ) (held : Bool) → number < 65536 → length property < 65536
       → (let k = addPiece (wordsOf t) index arena number property held in k .answer ≡ granted still → Ready (k .words) (k .index) header (k .arena) out-header out-body)
@@ -158,7 +161,7 @@ module _ {words index header arena : List ℕ} {c : Chunk} {held : Bool} {out-he
         (subst (λ (v : List ℕ). let x = takeHeader v header (c .chunk-num) (c .header) in Ready (x .words) index (x .header) arena out-header out-body) (sym (words-slot words (r .ready .nine)))
         (header-ready (slotOf words) (subst (λ (v : List ℕ). Ready v index header arena out-header out-body) (words-slot words (r .ready .nine)) (r .ready)) (c .chunk-num) (c .header)))
 
-    module _ (yes : a ≡ granted still) {b : Bool} {v : List ℕ} (l : countTaken b v ≡ takeCount w (c .num-chunks)) where
+    module _ (yes : a ≡ granted still) {b : Bool} {v : List ℕ} (l : countTaken b v ≡ takeCount w index (c .num-chunks) (c .chunk-num)) where
       count-as : (d : Bool) → b ≡ d → afterCount index header arena c held out-header out-body (countTaken d v) h ≡ said
       count-as d q =
           ap (λ (x : Bool). afterCount index header arena c held out-header out-body (countTaken x v) h) (sym q)
@@ -170,9 +173,10 @@ module _ {words index header arena : List ℕ} {c : Chunk} {held : Bool} {out-he
 
       pub ready-count : Ready v index h arena out-header out-body
       ready-count =
+          let e = words-slot w (ready-header .nine) in
           subst (λ (x : CountTaken). Ready (x .words) index h arena out-header out-body) (sym l)
-          (subst (λ (x : List ℕ). Ready (takeCount x (c .num-chunks) .words) index h arena out-header out-body) (sym (words-slot w (ready-header .nine)))
-          (count-ready (slotOf w) (subst (λ (x : List ℕ). Ready x index h arena out-header out-body) (words-slot w (ready-header .nine)) ready-header) (c .num-chunks)))
+          (subst (λ (x : List ℕ). Ready (takeCount x index (c .num-chunks) (c .chunk-num) .words) index h arena out-header out-body) (sym e)
+          (count-ready (slotOf w) (subst (λ (x : List ℕ). Ready x index h arena out-header out-body) e ready-header) (c .num-chunks) (c .chunk-num)))
 
       module _ (same : b ≡ true) {d : Reply Told} {x i m : List ℕ} (n : pieceAdded d x i m ≡ addPiece v index arena (c .chunk-num) (c .property) held) where
         piece-as : (y : Reply Told) → d ≡ y → afterPiece index header arena c held out-header out-body (pieceAdded y x i m) h ≡ said

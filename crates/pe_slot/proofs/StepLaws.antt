@@ -1,7 +1,7 @@
 -- The laws of the steps one after the other: they ask a slot's questions in their order.
 -- Assumes nothing.
 use Prim.Native.Nat.{ℕ, _+_, _<_, _≤_}
-use mathlib.Core.Bool.{Bool, true, false, cond, not, _&&_, _||_}
+use mathlib.Core.Bool.{Bool, true, false, cond}
 use mathlib.Core.List.{List}
 use mathlib.Core.Option.{some}
 use mathlib.Core.Path.{_≡_, refl}
@@ -9,13 +9,14 @@ use borrow.Author.Tests.{leb-true, ltb-true}
 use lib.Dec.{leb, ltb, eqb}
 use lib.ListN.{length, take}
 use Rattle.seven_bit.specs.Reply.{Reply, granted, refused}
-use Rattle.pe_frame.specs.Chunk.{Chunk}
+use Rattle.pe_frame.specs.Chunk.{Chunk, withinCount}
 use Rattle.pe_slot.specs.declared.layout.TxSlot.{TxSlot}
 use Rattle.pe_slot.specs.Slot.{Slot, Verdict, storing, taking, isWhole, eqList, afterChunk, passed}
 use Rattle.pe_slot.specs.Memory.{slotOf, wordsOf, contents, endsAt}
+use Rattle.pe_slot.specs.Records.{upTo}
 use Rattle.pe_slot.specs.Feed.{Told, SlotLeft, slotLeft, grown, closedSlot, placed}
 use Rattle.pe_slot.specs.Steps.{HeaderTaken, takeHeader, CountTaken, takeCount, PieceAdded, addPiece, finishOf}
-use Rattle.pe_slot.proofs.JudgeLaws.{pieceBy, countBy, askedAs, never}
+use Rattle.pe_slot.proofs.JudgeLaws.{pieceBy, countBy, takes, counts, askedAs, never}
 use Rattle.pe_slot.proofs.FeedLaws.{leaving, newHeader, newIndex, newArena, contents-grown}
 
 -- a no ends the feed, with memory as it is then
@@ -41,7 +42,7 @@ module _ (index header arena : List ℕ) (c : Chunk) (held : Bool) (out-header o
   abbrev pub afterHeader : HeaderTaken → SlotLeft
   afterHeader k =
       orNo (k .answer) (λ no!. slotLeft no! (k .words) index (k .header) arena out-header out-body)
-      (afterCount (takeCount (k .words) (c .num-chunks)) (k .header))
+      (afterCount (takeCount (k .words) index (c .num-chunks) (c .chunk-num)) (k .header))
 
   -- from the last step to the first; stores: whether the header was stored
   module _ (t : TxSlot) (laid : endsAt 0 (take (t .«index_len») index) ≡ some (t .«property_bytes»)) (named : c .chunk-num < 65536) (short : length (c .property) < 65536)
@@ -92,24 +93,30 @@ module _ (index header arena : List ℕ) (c : Chunk) (held : Bool) (out-header o
 
     -- the count's before them
     abbrev count : Verdict
-    count =
-        countBy (eqb (c .num-chunks) 0 || eqb (t .«num_chunks») 0 || eqb (t .«num_chunks») (c .num-chunks)) (not (eqb (c .num-chunks) 0) && eqb (t .«num_chunks») 0)
-        (piece (not (eqb (c .num-chunks) 0) && eqb (t .«num_chunks») 0))
+    count = countBy (counts t index header arena c) (takes t index header arena c) (piece (takes t index header arena c))
 
     abbrev AsCount : Type 0
     AsCount =
-        afterCount (takeCount (wordsOf (grown t c (leaving stores false false))) (c .num-chunks)) (newHeader t index header arena c stores)
+        afterCount (takeCount (wordsOf (grown t c (leaving stores false false))) index (c .num-chunks) (c .chunk-num)) (newHeader t index header arena c stores)
         ≡ placed t index header arena c (storing stores count) out-header out-body
 
     as-count : AsCount
-    unfolding takeCount placed
-    as-count = go (eqb (c .num-chunks) 0) refl (eqb (t .«num_chunks») 0) refl (eqb (t .«num_chunks») (c .num-chunks)) refl
+    unfolding takeCount placed withinCount
+    as-count =
+        go (eqb (t .«num_chunks») 0) refl (eqb (c .num-chunks) 0) refl (upTo (c .num-chunks) (take (t .«index_len») index)) refl
+        (eqb (t .«num_chunks») (c .num-chunks)) refl (leb (c .chunk-num) (t .«num_chunks»)) refl
       where
-        go : (n : Bool) → eqb (c .num-chunks) 0 ≡ n → (k : Bool) → eqb (t .«num_chunks») 0 ≡ k → (s : Bool) → eqb (t .«num_chunks») (c .num-chunks) ≡ s → AsCount
-        go true n k ek s es = rw n (unfold placed in (as-piece false))
-        go false n true ek s es = rw (n, ek) (unfold placed in (as-piece true))
-        go false n false ek true es = rw (n, ek, es) (unfold placed in (as-piece false))
-        go false n false ek false es = rw (n, ek, es)
+        go : (k : Bool) → eqb (t .«num_chunks») 0 ≡ k → (n : Bool) → eqb (c .num-chunks) 0 ≡ n
+            → (u : Bool) → upTo (c .num-chunks) (take (t .«index_len») index) ≡ u
+            → (s : Bool) → eqb (t .«num_chunks») (c .num-chunks) ≡ s → (w : Bool) → leb (c .chunk-num) (t .«num_chunks») ≡ w → AsCount
+        go true k true n u eu s es w ew = rw (k, n) (unfold placed in (as-piece false))
+        go true k false n true eu s es w ew = rw (k, n, eu) (unfold placed in (as-piece true))
+        go true k false n false eu s es w ew = rw (k, n, eu)
+        go false k true n u eu s es true ew = rw (k, n, ew) (unfold placed in (as-piece false))
+        go false k true n u eu s es false ew = rw (k, n, ew)
+        go false k false n u eu true es true ew = rw (k, n, es, ew) (unfold placed in (as-piece false))
+        go false k false n u eu true es false ew = rw (k, n, es, ew)
+        go false k false n u eu false es w ew = rw (k, n, es)
 
   -- the header's before those: all are the slot's questions, in their order
   module _ (t : TxSlot) (laid : endsAt 0 (take (t .«index_len») index) ≡ some (t .«property_bytes»)) (named : c .chunk-num < 65536) (short : length (c .property) < 65536) where

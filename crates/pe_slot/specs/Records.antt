@@ -5,7 +5,7 @@ use mathlib.Core.Bool.{Bool, true, false, cond, _&&_}
 use mathlib.Core.List.{List, [], _∷_, _++_}
 use mathlib.Core.Option.{Option, none, some}
 use mathlib.Core.Path.{_≡_}
-use lib.Dec.{eqb}
+use lib.Dec.{leb, eqb}
 use lib.ListN.{length, drop}
 use Rattle.pe_slot.specs.declared.records.Joined.{Joined}
 use Rattle.pe_slot.specs.declared.records.Pass.{Pass}
@@ -16,6 +16,11 @@ use Rattle.pe_slot.specs.Slot.{Piece, allHeld, bodyOf}
 unfoldable pub holds : ℕ → List ℕ → Bool
 holds n [] = false
 holds n (x ∷ xs) = cond (eqb (metaNumber x) n) true (holds n xs)
+
+-- Does no record have a chunk number above n?
+unfoldable pub upTo : ℕ → List ℕ → Bool
+upTo n [] = true
+upTo n (x ∷ xs) = leb (metaNumber x) n && upTo n xs
 
 -- The place of the first record with a chunk number, counted from i. `holds` asks whether there is one: the law `holds-placed` says so.
 unfoldable pub placeFrom : ℕ → ℕ → List ℕ → Option ℕ

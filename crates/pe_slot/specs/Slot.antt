@@ -8,7 +8,7 @@ use lib.Dec.{leb, ltb, eqb}
 use lib.ListN.{length}
 use Rattle.seven_bit.specs.Parts.{joined}
 use Rattle.seven_bit.specs.Reply.{Reply, granted, refused}
-use Rattle.pe_frame.specs.Chunk.{Chunk}
+use Rattle.pe_frame.specs.Chunk.{Chunk, withinCount}
 
 -- "pieces (frame number, property bytes)"
 pub record Piece : Type 0 where
@@ -118,13 +118,22 @@ noneKnown (some h) = false
 unfoldable pub newHeader : Slot → Chunk → Bool
 newHeader s c = eqb (c .chunk-num) 1 && noneKnown (s .header)
 
--- "Count 0, or none known, or the same?"
-unfoldable pub countAgrees : Slot → Chunk → Bool
-countAgrees s c = eqb (c .num-chunks) 0 || eqb (s .count) 0 || eqb (s .count) (c .num-chunks)
-
 -- "it is then taken"
 unfoldable pub newCount : Slot → Chunk → Bool
 newCount s c = not (eqb (c .num-chunks) 0) && eqb (s .count) 0
+
+-- Is no number held that is above n?
+unfoldable pub heldWithin : ℕ → List Piece → Bool
+heldWithin n [] = true
+heldWithin n (p ∷ ps) = leb (p .number) n && heldWithin n ps
+
+-- "Count 0, or none known, or the same?" And document 02, K3: "right after the count question and before the count is taken, a frame number
+-- above the known count gives 8, and so does a new count below a number already held".
+unfoldable pub countAgrees : Slot → Chunk → Bool
+countAgrees s c =
+    (eqb (c .num-chunks) 0 || eqb (s .count) 0 || eqb (s .count) (c .num-chunks))
+    && withinCount (c .chunk-num) (s .count)
+    && (not (newCount s c) || heldWithin (c .num-chunks) (s .pieces))
 
 -- The slot with what was stored, taken and added.
 unfoldable pub afterChunk : Slot → Chunk → Bool → Bool → Bool → Slot
@@ -147,7 +156,8 @@ passed t =
     }
 
 -- "Frame 1: header at most H? 4. No header yet, or the same? 8; it is then stored. Count 0, or none known, or the same? 8; it is then taken.
--- Number not 0? 8, and the transfer closes. Number not held? 8. Fewer than R held? 5. Body still at most B? 5, and it closes."
+-- Number not 0? 8, and the transfer closes. Number not held? 8. Fewer than R held? 5. Body still at most B? 5, and it closes." K3's two
+-- questions have the count's answer, 8, and "the transfer stays open": they are `countAgrees`'s.
 unfoldable pub judge : ℕ → ℕ → ℕ → Slot → Chunk → Verdict
 judge H B R s c =
     headerFits H c otherwise stays 4 then
@@ -160,6 +170,10 @@ judge H B R s c =
     ltb (length (s .pieces)) R otherwise stays 5 then
     leb (bodyLen (s .pieces) + length (c .property)) B otherwise closing 5 then
     passed (afterChunk s c (newHeader s c) (newCount s c) true)))
+
+-- Is every number that is held within the count, where that is known? A law says that each slot keeps this (proofs/WithinLaws).
+unfoldable pub allWithin : Slot → Bool
+allWithin s = eqb (s .count) 0 || heldWithin (s .count) (s .pieces)
 
 -- The slot after the verdict, where it stays open.
 abbrev pub slotAfter : Slot → Chunk → Verdict → Slot

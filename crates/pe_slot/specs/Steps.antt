@@ -1,7 +1,7 @@
 -- What the private steps of a feed say: the answer, and the memory that the step may change.
 -- Assumes nothing.
 use Prim.Native.Nat.{ℕ, _+_, _≤_}
-use mathlib.Core.Bool.{Bool, true, cond, not, _&&_, _||_}
+use mathlib.Core.Bool.{Bool, true, false, cond, not, _&&_, _||_}
 use mathlib.Core.List.{List}
 use mathlib.Core.Option.{Option, none, some}
 use mathlib.Core.Path.{_≡_}
@@ -17,7 +17,7 @@ use Rattle.pe_slot.specs.declared.slot.Soundness.{Soundness}
 use Rattle.pe_slot.specs.Layout.{slotWords, numChunksAt, headerSetAt, headerLenAt, indexLenAt, propertyBytesAt}
 use Rattle.pe_slot.specs.Slot.{Slot, eqList, isWhole, eventOf, judge}
 use Rattle.pe_slot.specs.Memory.{slotOf, packed, contents, endsAt, isSound}
-use Rattle.pe_slot.specs.Records.{holds}
+use Rattle.pe_slot.specs.Records.{holds, upTo}
 use Rattle.pe_slot.specs.Feed.{Told, still, toldAnswer, SlotLeft, placed, outHeader, outBody, cleared}
 
 -- The part of question 31 that needs no pass over the records.
@@ -78,7 +78,8 @@ takeHeader words header number new =
     (headerTaken (refused 4 0) words header))
     (headerTaken (granted still) words header)
 
--- The count: taken where none is known, and else 0 or the same.
+-- The count: where one is known, the chunk's is 0 or the same, and its number is within it; else the chunk's is taken, if no number that is
+-- held is above it.
 pub record CountTaken : Type 0 where
   pub agrees : Bool
   pub words : List ℕ
@@ -86,11 +87,13 @@ pub record CountTaken : Type 0 where
 abbrev pub countTaken : Bool → List ℕ → CountTaken
 countTaken agrees words = record { agrees = agrees; words = words }
 
-unfoldable pub takeCount : List ℕ → ℕ → CountTaken
-takeCount words count =
-    cond (eqb count 0) (countTaken true words)
-    (cond (eqb (slotOf words .«num_chunks») 0) (countTaken true (set words numChunksAt count))
-    (countTaken (eqb (slotOf words .«num_chunks») count) words))
+unfoldable pub takeCount : List ℕ → List ℕ → ℕ → ℕ → CountTaken
+takeCount words index count number =
+    cond (eqb (slotOf words .«num_chunks») 0)
+    (cond (eqb count 0) (countTaken true words)
+    (cond (upTo count (take (slotOf words .«index_len») index)) (countTaken true (set words numChunksAt count))
+    (countTaken false words)))
+    (countTaken ((eqb count 0 || eqb (slotOf words .«num_chunks») count) && leb number (slotOf words .«num_chunks»)) words)
 
 -- The piece: number not 0, not held, fewer than R records, body still at most B.
 pub record PieceAdded : Type 0 where

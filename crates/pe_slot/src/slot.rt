@@ -13,6 +13,7 @@ use super::layout::PROPERTY_BYTES;
 use super::layout::REQUEST_ID;
 use super::layout::SLOT_WORDS;
 use super::records::Joined;
+use super::records::is_up_to;
 use super::records::join;
 use super::records::pack;
 use super::records::scan;
@@ -225,19 +226,28 @@ fn take_header(words: &mut [u64], header: &mut [u8], chunk_num: u16, chunk_heade
     Asked::No(PeError::InconsistentChunking)
 }
 
-// Is the chunk's count 0, or the one that is known? The first is taken.
-fn take_count(words: &mut [u64], num_chunks: u16) -> bool
-    requires { ⌜ length (now words) ≡ slotWords ⌝ }
-    ensures { λ r. ⌜ countTaken r (now (words .exit)) ≡ takeCount (now (words .entry)) «num_chunks» ⌝ }
+// Do the chunk's count and number go with the count that is known? The first one is taken, if no number that is held is above it.
+fn take_count(words: &mut [u64], index: &[u64], num_chunks: u16, chunk_num: u16) -> bool
+    requires { ⌜ (length (now words) ≡ slotWords) × (slotOf (now words) .«index_len» ≤ length (now index)) ⌝ }
+    ensures { λ r. ⌜ countTaken r (now (words .exit)) ≡ takeCount (now (words .entry)) (now (index .entry)) «num_chunks» «chunk_num» ⌝ }
 {
-    if num_chunks == 0 {
-        return true;
-    }
-    if words[NUM_CHUNKS] == 0 {
+    let known = words[NUM_CHUNKS];
+    if known == 0 {
+        if num_chunks == 0 {
+            return true;
+        }
+        if !is_up_to(index, words[INDEX_LEN] as usize, num_chunks) {
+            return false;
+        }
         words[NUM_CHUNKS] = num_chunks as u64;
         return true;
     }
-    words[NUM_CHUNKS] == num_chunks as u64
+    if num_chunks != 0 {
+        if num_chunks as u64 != known {
+            return false;
+        }
+    }
+    chunk_num as u64 <= known
 }
 
 // Is there a number, not held, and room for a record and its bytes? Then the piece lies behind the others; held: whether its number is.
@@ -340,7 +350,7 @@ fn feed_sound(
     if let Asked::No(e) = take_header(words, header, chunk_num, chunk_header) {
         return Fed::Refused(e);
     }
-    if !take_count(words, num_chunks) {
+    if !take_count(words, index, num_chunks, chunk_num) {
         return Fed::Refused(PeError::InconsistentChunking);
     }
     if let Asked::No(e) = add_piece(words, index, arena, chunk_num, property, held) {

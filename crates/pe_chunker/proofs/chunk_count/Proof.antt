@@ -10,16 +10,19 @@ use denote.Ref.{now}
 use Rattle.pe_chunker.specs.Cut.{cutCount, bodyPieces}
 use Rattle.pe_chunker.proofs.CutLaws.{later-between}
 use Rattle.pe_chunker.proofs.PieceLaws.{pieces-count}
-use Rattle.pe_chunker.proofs.AskLaws.{cut-id, cut-high, cut-long, cut-wide, cut-many, cut-asked}
+use Rattle.pe_chunker.proofs.AskLaws.{cut-id, cut-high, cut-high-body, cut-long, cut-wide, cut-many, cut-asked}
 use Rattle.seven_bit.specs.SevenBit.{isSevenBit}
 use mathlib.Core.Bool.{true}
 
--- the header's bytes are up to 7F
+-- the header's bytes are up to 7F, and so are the body's
 low : (c : tie.Else2) → isSevenBit (now (c .before .before .before .before .before .args .header)) ≡ true
 low c = sym (c .before .all-seven-bit .ensures) ∙ not-false _ (c .if2 .left)
 
+body-low : (c : tie.Else3) → isSevenBit (now (c .before .before .before .before .before .before .before .args .body)) ≡ true
+body-low c = sym (c .before .all-seven-bit2 .ensures) ∙ not-false _ (c .if3 .left)
+
 abbrev up : tie.After-chunks-for → tie.Start
-up c = c .before .before .before .before .before .before .before .before .before
+up c = c .before .before .before .before .before .before .before .before .before .before .before
 
 -- the chunks that were counted are the pieces
 counted : (c : tie.After-chunks-for)
@@ -42,50 +45,65 @@ returns-2 : tie.Need-returns-2
 unfolding cutCount
 returns-2 c = sym (cut-high _ _ _ _ _ (c .before .before .if1 .left) (sym (c .before .all-seven-bit .ensures) ∙ not-true _ (c .if2 .taken)))
 
-cast-if3 : tie.Need-cast-if3
-cast-if3 c = search needs
+all-seven-bit-requires-2 : tie.Need-all-seven-bit-requires-2
+all-seven-bit-requires-2 c κs = search needs
 
 returns-3 : tie.Need-returns-3
 unfolding cutCount
-returns-3 c = sym (cut-long _ _ _ _ _ (c .before .before .before .if1 .left) (low (c .before)) (c .if3 .taken))
+returns-3 c =
+    let t = c .before .before in
+    sym (cut-high-body _ _ _ _ _ (t .before .before .if1 .left) (low t) (sym (c .before .all-seven-bit2 .ensures) ∙ not-true _ (c .if3 .taken)))
 
-later-chunk-property-capacity-requires : tie.Need-later-chunk-property-capacity-requires
-later-chunk-property-capacity-requires c κs = search needs
+cast-if4 : tie.Need-cast-if4
+cast-if4 c = search needs
 
 returns-4 : tie.Need-returns-4
 unfolding cutCount
 returns-4 c =
-    let t = c .before .before in
-    sym (cut-wide _ _ _ _ _ (t .before .before .before .if1 .left) (low (t .before)) (t .if3 .left) (omega arith))
+    let t = c .before .before .before in
+    sym (cut-long _ _ _ _ _ (t .before .before .if1 .left) (low t) (body-low (c .before)) (c .if4 .taken))
+
+later-chunk-property-capacity-requires : tie.Need-later-chunk-property-capacity-requires
+later-chunk-property-capacity-requires c κs = search needs
+
+returns-5 : tie.Need-returns-5
+unfolding cutCount
+returns-5 c =
+    let b = c .before .before .before in
+    let t = b .before .before in
+    sym (cut-wide _ _ _ _ _ (t .before .before .if1 .left) (low t) (body-low b) (c .before .before .if4 .left) (omega arith))
 
 sub-chunks-for : tie.Need-sub-chunks-for
 sub-chunks-for c = search needs
 
 chunks-for-requires : tie.Need-chunks-for-requires
 chunks-for-requires c κs =
-    let h = later-between (c .before .before .before .before .before .before .before .before .args .max-sysex) in
+    let h = later-between (c .before .before .before .before .before .before .before .before .before .before .args .max-sysex) in
     (omega arith, omega arith, omega arith)
 
-cast-if5 : tie.Need-cast-if5
-cast-if5 c = search needs
-
-returns-5 : tie.Need-returns-5
-unfolding cutCount
-returns-5 c =
-    let e = counted (c .before) in
-    let t = c .before .before .before .before .before in
-    sym (cut-many _ _ _ _ _ (t .before .before .if1 .left) (low t) (omega arith) (omega arith))
-
-cast-t17 : tie.Need-cast-t17
-cast-t17 c = search needs
+cast-if6 : tie.Need-cast-if6
+cast-if6 c = search needs
 
 returns-6 : tie.Need-returns-6
 unfolding cutCount
 returns-6 c =
     let e = counted (c .before) in
-    let t = c .before .before .before .before .before in
+    let b = c .before .before .before .before .before in
+    let t = b .before .before in
+    sym (cut-many _ _ _ _ _ (t .before .before .if1 .left) (low t) (body-low b) (omega arith) (omega arith))
+
+cast-t18 : tie.Need-cast-t18
+cast-t18 c = search needs
+
+returns-7 : tie.Need-returns-7
+unfolding cutCount
+returns-7 c =
+    let e = counted (c .before) in
+    let b = c .before .before .before .before .before in
+    let t = b .before .before in
     rw (← e)
-    (sym (cut-asked _ _ _ _ _ (record { low = t .before .before .if1 .left; seven = low t; fits = omega arith; few = omega arith })))
+    (sym (cut-asked _ _ _ _ _
+    (record { low = t .before .before .if1 .left; header-bytes = low t; body-bytes = body-low b; fits = omega arith; few = omega arith })))
 
 pub chunk-count-spec : {M : Type 1} → statement M
 chunk-count-spec =
@@ -94,13 +112,15 @@ chunk-count-spec =
     returns
     all-seven-bit-requires
     returns-2
-    cast-if3
+    all-seven-bit-requires-2
     returns-3
-    later-chunk-property-capacity-requires
+    cast-if4
     returns-4
+    later-chunk-property-capacity-requires
+    returns-5
     sub-chunks-for
     chunks-for-requires
-    cast-if5
-    returns-5
-    cast-t17
-    returns-6)
+    cast-if6
+    returns-6
+    cast-t18
+    returns-7)

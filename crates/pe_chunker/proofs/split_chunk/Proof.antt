@@ -1,21 +1,20 @@
+use mathlib.Core.List.{List}
 use mathlib.Core.Path.{_≡_, sym, ap, _∙_}
-use Prim.Native.Nat.{ℕ, _-_, _≤_}
+use Prim.Native.Nat.{ℕ, _+_, _<_, _≤_}
 use lib.ListN.{length}
 use native.Mathlib.Omega.{arith}
 use borrow.Author.Needs.{needs}
 use Rattle.pe_chunker.proofs.split_chunk.Statement.{statement}
 use Rattle.pe_chunker.proofs.split_chunk.Tie as tie
 use denote.Ref.{now}
-use Rattle.seven_bit.specs.Reply.{writing, Reply}
-use Rattle.pe_chunker.specs.Cut.{chunkCountTold, bodyPieces}
-use Rattle.pe_chunker.proofs.CutLaws.{later-between}
-use Rattle.pe_chunker.proofs.PieceLaws.{piece-at, part-ends}
-use Rattle.pe_chunker.proofs.AskLaws.{Cut}
-use Rattle.pe_chunker.proofs.ChunkLaws.{header-part, chunk-is, chunk-refused, count-told, chunk-none, chunk-past, chunk-written, header-fits}
-use mathlib.Core.List.{List}
-use lib.Seq.{length-take-le}
+use Rattle.seven_bit.specs.Reply.{refused, outcome}
+use Rattle.seven_bit.proofs.PartLaws.{fit-no, fit-front}
+use Rattle.seven_bit.proofs.ReplyLaws.{wrote}
 use Rattle.pe_frame.specs.Chunk.{Chunk}
-use Rattle.pe_frame.specs.Write.{writeChunk}
+use Rattle.pe_frame.specs.Write.{chunkBytes, chunkLen, writeChunk}
+use Rattle.pe_frame.proofs.ChunkLaws.{InRange, chunk-length, write-granted, write-short}
+use Rattle.pe_chunker.specs.Cut.{bodyPieces, chunkAt, Cut, cutChunk, chunkCountTold}
+use Rattle.pe_chunker.proofs.ChunkLaws.{chunk-refused, count-told, chunk-none, chunk-past, chunk-written, chunk-in-range}
 
 abbrev up : tie.After-n → tie.Start
 up c = c .before .before .before .before .before .before
@@ -26,14 +25,30 @@ cut : (c : tie.After-n)
     × (length (bodyPieces (up c .args .max-sysex) (length (now (up c .args .header))) (now (up c .args .body))) ≡ c .n .given .0 .0)
 cut c = count-told _ _ _ _ _ (sym (c .before .before .chunk-count .ensures) ∙ ap chunkCountTold (c .n .given .1))
 
-abbrev up2 : tie.After-body-part2 → tie.After-n
-up2 c = c .before .before .before .before .before .before .before
+abbrev up2 : tie.After-put-piece → tie.After-n
+up2 c = c .before .before .before .before .before
 
--- where the property stands in the body
-ends : (c : tie.After-body-part2) → (c .before .body-part .result ≤ c .body-part2 .result) × (c .body-part2 .result ≤ length (now (up (up2 c) .args .body)))
-ends c =
-    part-ends (length (now (up (up2 c) .args .header))) (up (up2 c) .args .chunk-num - 1) (up (up2 c) .args .chunk-num) _ _ _ _
-    (omega arith) (c .before .body-part .ensures) (c .body-part2 .ensures)
+-- what the call stored, and how long it is
+abbrev chunk : tie.After-n → Chunk
+chunk c = let a = up c .args in chunkAt (a .request-id) (now (a .header)) (now (a .body)) (a .max-sysex) (a .chunk-num)
+
+abbrev room : tie.After-n → ℕ
+room c = length (now (up c .args .out))
+
+size : (c : tie.After-put-piece) → c .put-piece .result ≡ 9 + length (chunk (up2 c) .header) + length (chunk (up2 c) .property)
+unfolding chunkLen
+size c = c .put-piece .ensures .0
+
+-- the number was asked
+within : (c : tie.After-put-piece) → let a = up (up2 c) .args in a .chunk-num ≤ length (bodyPieces (a .max-sysex) (length (now (a .header))) (now (a .body)))
+within c = omega (arith, cut (up2 c) .1, c .before .before .if2 .left)
+
+in-range : (c : tie.After-put-piece) → InRange (chunk (up2 c))
+in-range c = chunk-in-range _ _ _ _ _ (cut (up2 c) .0) (c .before .before .before .if1 .left) (within c)
+
+written : (c : tie.After-put-piece) → let a = up (up2 c) .args in
+    cutChunk (a .request-id) (now (a .header)) (now (a .body)) (a .max-sysex) (a .chunk-num) (room (up2 c)) ≡ writeChunk (chunk (up2 c)) (room (up2 c))
+written c = chunk-written _ _ _ _ _ _ (cut (up2 c) .0) (c .before .before .before .if1 .left) (within c)
 
 chunk-count-requires : tie.Need-chunk-count-requires
 chunk-count-requires c κs = search needs
@@ -61,56 +76,36 @@ returns-3 c =
     let e = cut (c .before .before .before) .1 in
     rw (chunk-past _ _ _ _ (a .chunk-num) (length (now (a .out))) (cut (c .before .before .before) .0) (c .before .if1 .left) (omega arith))
 
-later-chunk-property-capacity-requires : tie.Need-later-chunk-property-capacity-requires
-later-chunk-property-capacity-requires c κs = search needs
-
-header-part-requires : tie.Need-header-part-requires
-header-part-requires c κs = search needs
-
-body-part-requires : tie.Need-body-part-requires
-body-part-requires c κs =
-    let h = later-between (c .before .before .before .before .before .before .before .before .before .before .before .args .max-sysex) in
-    omega arith
-
-body-part-requires-2 : tie.Need-body-part-requires-2
-body-part-requires-2 c κs =
-    let h = later-between (c .before .before .before .before .before .before .before .before .before .before .before .before .args .max-sysex) in
-    omega arith
-
-slice-aggregate-encode : tie.Need-slice-aggregate-encode
-slice-aggregate-encode c =
-    let a = c .before .before .before .before .before .before .before .before .before .before .before .before .before .before .args in
-    sym (length-take-le _ (now (a .header)) (header-fits (a .chunk-num) _ _ (c .before .before .before .header-part .ensures)))
-
-sub-encode : tie.Need-sub-encode
-sub-encode c = let h = ends (c .before) in omega arith
-
-part-encode-start : tie.Need-part-encode-start
-part-encode-start c = let h = ends (c .before) in omega arith
-
-part-encode-end : tie.Need-part-encode-end
-part-encode-end c = search needs
-
-encode-requires : tie.Need-encode-requires
-encode-requires c κs = search needs
+put-piece-requires : tie.Need-put-piece-requires
+put-piece-requires c κs =
+    let t = cut (c .before .before .before .before) in
+    (t .0, (t .1, c .before .before .if1 .left, c .before .if2 .left))
 
 same-length : tie.Need-same-length
 same-length c = search needs
 
 returns-4 : tie.Need-returns-4
 returns-4 c =
-    let d = c .before .before .before .before .before .before in
-    let a = up (up2 d) .args in
-    let t = cut (up2 d) in
-    let e = t .1 in
-    let room = length (now (a .out)) in
-    let p = piece-at (a .max-sysex) (length (now (a .header))) (a .chunk-num - 1) (a .chunk-num) _ _ _ (now (a .body))
-    (d .before .before .before .later-chunk-property-capacity .ensures) (omega arith) (t .0 .fits) (d .before .body-part .ensures) (d .body-part2 .ensures) in
-    let h = header-part (a .chunk-num) _ (now (a .header)) (d .before .before .header-part .ensures) in
-    let i = chunk-is (a .request-id) (now (a .header)) (now (a .body)) (a .max-sysex) (a .chunk-num) _ _ _ h e p in
-    let w = chunk-written (a .request-id) (now (a .header)) (now (a .body)) (a .max-sysex) (a .chunk-num) room (t .0) (d .before .before .before .before .before .if1 .left) (omega arith) in
-    c .before .before .encode .ensures
-    ∙ ap (λ (r : Reply (List ℕ)). writing r (now (a .out))) (ap (λ (k : Chunk). writeChunk k room) i ∙ sym w)
+    let p = c .before .before .before in
+    let k = chunk (up2 p) in
+    let lent = now (up (up2 p) .args .out) in
+    let l : room (up2 p) < 9 + length (k .header) + length (k .property) = omega (arith, size p, c .if3 .taken) in
+    let e : length (chunkBytes k) ≡ 9 + length (k .header) + length (k .property) = unfold chunkLen in chunk-length k in
+    rw (written p, write-short k (room (up2 p)) (in-range p) l)
+    (ap (λ (o : List ℕ). outcome (refused 3 0) o) (p .put-piece .ensures .1 ∙ fit-no lent 0 (chunkBytes k) (omega (arith, e))))
+
+same-length-2 : tie.Need-same-length-2
+same-length-2 c = search needs
+
+returns-5 : tie.Need-returns-5
+returns-5 c =
+    let p = c .before .before .before in
+    let k = chunk (up2 p) in
+    let lent = now (up (up2 p) .args .out) in
+    let l : 9 + length (k .header) + length (k .property) ≤ room (up2 p) = omega (arith, size p, c .if3 .left) in
+    let e : length (chunkBytes k) ≡ 9 + length (k .header) + length (k .property) = unfold chunkLen in chunk-length k in
+    rw (written p, write-granted k (room (up2 p)) (in-range p) l)
+    (wrote (chunkBytes k) lent _ _ (e ∙ sym (size p)) (p .put-piece .ensures .1 ∙ fit-front lent (chunkBytes k) (omega (arith, e))))
 
 pub split-chunk-spec : {M : Type 1} → statement M
 split-chunk-spec =
@@ -122,14 +117,8 @@ split-chunk-spec =
     returns
     returns-2
     returns-3
-    later-chunk-property-capacity-requires
-    header-part-requires
-    body-part-requires
-    body-part-requires-2
-    slice-aggregate-encode
-    sub-encode
-    part-encode-start
-    part-encode-end
-    encode-requires
+    put-piece-requires
     same-length
-    returns-4)
+    returns-4
+    same-length-2
+    returns-5)

@@ -25,7 +25,7 @@ abbrev taken : tie.After-enum-told → tie.After-take-header
 taken c = c .before .before .before .before .before .before
 
 abbrev asked : tie.After-take-count → tie.After-enum-told
-asked c = c .before .before
+asked c = c .before .before .before
 
 abbrev counted : tie.Else1 → tie.After-take-count
 counted c = c .before .before .before
@@ -57,13 +57,16 @@ enum-told : tie.Need-enum-told
 enum-told c = search needs
 
 take-count-requires : tie.Need-take-count-requires
-take-count-requires c κs = let t = taken (c .before) in ready-header (reaching (start t)) (t .take-header .ensures) .nine
+take-count-requires c κs = let t = taken (c .before .before) in let r = ready-header (reaching (start t)) (t .take-header .ensures) in (r .nine, r .held)
 
 same-length-3 : tie.Need-same-length-3
 same-length-3 c = search needs
 
 same-length-4 : tie.Need-same-length-4
 same-length-4 c = search needs
+
+same-length-5 : tie.Need-same-length-5
+same-length-5 c = search needs
 
 returns-2 : tie.Need-returns-2
 returns-2 c =
@@ -83,9 +86,6 @@ add-piece-requires c κs =
 enum-known-e-2 : tie.Need-enum-known-e-2
 enum-known-e-2 c = search needs
 
-same-length-5 : tie.Need-same-length-5
-same-length-5 c = search needs
-
 same-length-6 : tie.Need-same-length-6
 same-length-6 c = search needs
 
@@ -94,6 +94,9 @@ same-length-7 c = search needs
 
 same-length-8 : tie.Need-same-length-8
 same-length-8 c = search needs
+
+same-length-9 : tie.Need-same-length-9
+same-length-9 c = search needs
 
 returns-3 : tie.Need-returns-3
 returns-3 c =
@@ -119,9 +122,6 @@ finish-requires c κs =
     ready-piece (reaching (start t)) (t .take-header .ensures) (ap askedTold (y .enum-told .given .1)) (n .take-count .ensures) (not-false _ (i .if1 .left)) (p .add-piece .ensures)
     (ap askedTold (z .enum-told2 .given .1))
 
-same-length-9 : tie.Need-same-length-9
-same-length-9 c = search needs
-
 same-length-10 : tie.Need-same-length-10
 same-length-10 c = search needs
 
@@ -136,6 +136,9 @@ same-length-13 c = search needs
 
 same-length-14 : tie.Need-same-length-14
 same-length-14 c = search needs
+
+same-length-15 : tie.Need-same-length-15
+same-length-15 c = search needs
 
 returns-4 : tie.Need-returns-4
 returns-4 c =
@@ -161,20 +164,21 @@ feed-sound-spec =
     take-count-requires
     same-length-3
     same-length-4
+    same-length-5
     returns-2
     add-piece-requires
     enum-known-e-2
-    same-length-5
     same-length-6
     same-length-7
     same-length-8
+    same-length-9
     returns-3
     enum-told-2
     finish-requires
-    same-length-9
     same-length-10
     same-length-11
     same-length-12
     same-length-13
     same-length-14
+    same-length-15
     returns-4)
