@@ -80,12 +80,13 @@ run:
 	@target/c/week
 
 test-c:
+	@.ci/values "the C tests" SEED
 	@c/at-hand Cannot-run "the C tests"
 	@$(MAKE) -s tested-c
 
 tested-c: target/c/readme target/c/exports target/c/week target/c/bodies target/c/answers
 	@c/test/header
-	@target/c/exports
+	@target/c/exports $(SEED)
 	@target/c/week >target/c/week.log || { cat target/c/week.log; exit 1; }
 	@echo "The demo ends as it should."
 	@c/test/syx/run
@@ -97,7 +98,7 @@ tested-c: target/c/readme target/c/exports target/c/week target/c/bodies target/
 	@c/test/commands
 
 sanitized-c: target/c/exports_sanitized target/c/week_sanitized
-	@target/c/exports_sanitized >target/c/exports.log || { cat target/c/exports.log; exit 1; }
+	@target/c/exports_sanitized $(SEED) >target/c/exports.log || { cat target/c/exports.log; exit 1; }
 	@target/c/week_sanitized >target/c/week.log || { cat target/c/week.log; exit 1; }
 	@echo "The same with the tests and the demo instrumented (address and undefined-behaviour sanitizers)."
 

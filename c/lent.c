@@ -107,3 +107,5 @@ bool lent_guarded(const struct lent *lent)
 }
 
 uint64_t *lent_words(const struct lent *lent) { return (uint64_t *)(void *)lent->at; }
+
+uint16_t *lent_u16s(const struct lent *lent) { return (uint16_t *)(void *)lent->at; }

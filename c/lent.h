@@ -42,6 +42,8 @@ bool lent_same_from(const struct lent *lent, size_t from);
 /* Are the bytes before the slice the known ones? */
 bool lent_guarded(const struct lent *lent);
 
+/* The slice as one of larger elements. */
 uint64_t *lent_words(const struct lent *lent);
+uint16_t *lent_u16s(const struct lent *lent);
 
 #endif

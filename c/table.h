@@ -122,10 +122,19 @@ struct call {
 };
 extern const struct call calls[];
 
+/* Is the one answer the other? */
+bool told_same(struct told a, struct told b);
+
+/* After an open list of so many rows and its model: are the rows of the one those of the other? Their order is free: they
+ * are then put as the model has them. */
+bool table_same_rows(struct table *table, uint64_t count);
+
 /* ---- The model of what has no table ---- */
 
 midici_pe_answer model_chunk_count(uint8_t request_id, const struct lent *header, const struct lent *body,
                                    uint32_t max_sysex);
+midici_pe_cut model_split(uint8_t request_id, const struct lent *header, const struct lent *body, uint32_t max_sysex,
+                          struct lent *out, struct lent *lengths);
 midici_pe_answer model_split_chunk(uint8_t request_id, const struct lent *header, const struct lent *body,
                                    uint32_t max_sysex, uint16_t chunk_num, struct lent *out);
 midici_pe_answer model_encode_message(uint8_t sub_id2, uint32_t source, uint32_t dest, uint8_t request_id,

@@ -1,9 +1,9 @@
 /* MIDI-CI Property Exchange: cut a header and a body into chunks, write messages, join what arrives, find the messages of a
  * .syx file, and find a value in a header.
  *
- * Words. A peer is a device, named by its MUID, a number of 28 bits. A list is the header and the body of one exchange.
- * A chunk is one piece of a list. A message is a CI header of 13 bytes with a chunk behind it, without F0 and F7. In a file
- * a message is any run of bytes up to 7F between F0 and F7 (see Files).
+ * Words. A peer is a device, named by its MUID, a number of 28 bits. A list is the header and the body of one exchange,
+ * bytes up to 7F both. A chunk is one piece of a list. A message is a CI header of 13 bytes with a chunk behind it, without
+ * F0 and F7. In a file a message is any run of bytes up to 7F between F0 and F7 (see Files).
  *
  * Memory. The library allocates nothing, keeps no pointer after a call and has no state of its own. All memory is yours
  * and is lent for the time of a call. It has no I/O, takes no locks and never ends the program. The one function that it
@@ -12,15 +12,16 @@
  * Slices. A slice is a pointer and a length; the length counts elements, not bytes. A pointer may be NULL where the length
  * is 0. A call writes within the slices that are not const, and nowhere else.
  *
- * Answers. midici_pe_answer, midici_pe_fed, midici_pe_stats, midici_pe_syx and midici_pe_found begin with `refusal`: 0, or
- * the number that says why the call was turned down (enum midici_pe_refusal). With a refusal every other field is 0, except
- * `value` with number 24. Unless a call says otherwise, a refused call leaves all lent memory as it was.
+ * Answers. midici_pe_answer, midici_pe_cut, midici_pe_fed, midici_pe_stats, midici_pe_syx and midici_pe_found begin with
+ * `refusal`: 0, or the number that says why the call was turned down (enum midici_pe_refusal). With a refusal every other
+ * field is 0, except `value` with number 24. Unless a call says otherwise, a refused call leaves all lent memory as it was.
  * midici_pe_request_id has no refusal. Compare fields, not the bytes of the structs: there is padding between fields.
  *
  * Time. Every call returns, whatever its arguments. Its time grows with the bytes that it is given, a file's among them,
- * and the chunks that the list holds, with two exceptions. A list whose chunk numbers have a gap above its count is joined,
- * once, in time by the square of its chunks, some two million steps for 2,048 of them. Finding a value in a header takes
- * time that grows with the header, with the given name, and with the square of the number of names in the header, of which
+ * and the chunks that the list holds, with two exceptions. Feeding a list that holds a chunk number twice, or one that is 0
+ * or above its count, may take time by the square of its chunks, some two million steps for 2,048 of them; calls leave no
+ * such list, it can only stand in a table whose memory something else has written. Finding a value in a header takes time
+ * that grows with the header, with the given name, and with the square of the number of names in the header, of which
  * there are at most 819.
  *
  * Trust. What is said here of answers and memory is proved of calls that keep four rules, and a call cannot see whether
@@ -42,7 +43,7 @@
 #include <stdint.h>
 
 #define MIDICI_PE_VERSION_MAJOR 0
-#define MIDICI_PE_VERSION_MINOR 4
+#define MIDICI_PE_VERSION_MINOR 5
 #define MIDICI_PE_VERSION_PATCH 0
 
 /* More stack than any call takes (make sizes measures each). */
@@ -58,12 +59,12 @@ enum midici_pe_refusal {
 
     MIDICI_PE_BAD_FIELD = 1,               /* a byte above 7F, a number out of range, or bytes left over behind a chunk */
     MIDICI_PE_TRUNCATED = 2,               /* a chunk ends too early */
-    MIDICI_PE_BUFFER_TOO_SMALL = 3,        /* `out` is too short */
+    MIDICI_PE_BUFFER_TOO_SMALL = 3,        /* `out` or `lengths` is too short */
     MIDICI_PE_HEADER_TOO_LARGE = 4,        /* the header does not fit into the first chunk, or into the table */
     MIDICI_PE_OVERSIZE = 5,                /* too many chunks, or the body does not fit into the table */
     MIDICI_PE_TOO_MANY_CONCURRENT = 6,     /* the peer has four lists open, none with this request id */
     MIDICI_PE_PEER_TABLE_FULL = 7,         /* every peer record is taken by another peer with a list open */
-    MIDICI_PE_INCONSISTENT_CHUNKING = 8,   /* a chunk that does not go with those before it, or with itself */
+    MIDICI_PE_INCONSISTENT_CHUNKING = 8,   /* a chunk that does not go with itself or with those before it */
     MIDICI_PE_BAD_MCODED7 = 9,             /* bytes that are no Mcoded7 (no call of this header answers it) */
 
     MIDICI_PE_CI_TRUNCATED = 21,           /* a message of fewer than 13 bytes */
@@ -93,6 +94,13 @@ typedef struct midici_pe_answer {
     uint8_t value;
     uint64_t count;
 } midici_pe_answer;
+
+/* What cutting a whole list answers: how many chunks it has, and how many bytes they have all together. */
+typedef struct midici_pe_cut {
+    uint8_t refusal;
+    uint64_t chunks;
+    uint64_t bytes;
+} midici_pe_cut;
 
 /* What feeding answers. `whole` is 1 when the list is complete: then `header_len` and `body_len` are its lengths, and the
  * two outputs begin with it. While chunks are missing, `whole` and both lengths are 0. */
@@ -164,13 +172,25 @@ midici_pe_request_id midici_pe_alloc_out_request_id(uint8_t counter);
 
 /* `count` is how many chunks the header and the body are cut into (1 to 16,383). No message with one of them is longer than
  * `max_sysex` bytes, F0 and F7 included; `max_sysex` is taken as 128 if it is less, and as 4,096 if it is more.
- * Refusals: 1 request_id above 7F, or a header byte above 7F; 4 the header does not fit into the first chunk; 5 more than
- * 16,383 chunks. */
+ * Refusals: 1 request_id above 7F, or a byte of the header or the body above 7F; 4 the header does not fit into the first
+ * chunk; 5 more than 16,383 chunks. */
 midici_pe_answer midici_pe_chunk_count(uint8_t request_id, const uint8_t *header, size_t header_len, const uint8_t *body,
                                        size_t body_len, uint32_t max_sysex);
 
+/* Writes all chunks of the same list into `out`, one behind the other, chunk 1 first, and their lengths into `lengths`.
+ * `chunks` is how many there are, and `bytes` how many bytes they have all together: header_len + body_len + 9 * chunks. So
+ * with midici_pe_chunk_count a caller knows how long `out` and `lengths` have to be. Bytes and lengths past the chunks keep
+ * their values.
+ * Refusals: those of midici_pe_chunk_count; 3 `out` is shorter than all chunks together, or `lengths` has fewer elements
+ * than there are chunks. Both are then as they were. */
+midici_pe_cut midici_pe_split(uint8_t request_id, const uint8_t *header, size_t header_len, const uint8_t *body,
+                              size_t body_len, uint32_t max_sysex, uint8_t *out, size_t out_len, uint16_t *lengths,
+                              size_t lengths_len);
+
 /* Writes chunk `chunk_num` (1 is the first) of the same list into `out`. `count` is how many bytes it has, at most
- * MIDICI_PE_CHUNK_LEN; the rest of `out` keeps its bytes.
+ * MIDICI_PE_CHUNK_LEN; the rest of `out` keeps its bytes. With each call all bytes of the body are asked, whichever chunk
+ * is written: to cut a list chunk by chunk takes time that grows with the square of the list. midici_pe_split asks them
+ * once, so it is the one to call where there is room for all chunks.
  * Refusals: those of midici_pe_chunk_count; 29 chunk_num is 0 or above the count; 3 `out` is too short. `out` is then as it
  * was. */
 midici_pe_answer midici_pe_split_chunk(uint8_t request_id, const uint8_t *header, size_t header_len, const uint8_t *body,
@@ -180,11 +200,12 @@ midici_pe_answer midici_pe_split_chunk(uint8_t request_id, const uint8_t *header
 /* Writes a message into `out`: a CI header (device 7F, kind `sub_id2`, version 2, source, destination) and a chunk of the
  * given fields. `count` is how many bytes it has, 22 + header_len + property_len; the rest of `out` keeps its bytes.
  * The kinds that carry a chunk are 34 to 39 and 3F (hexadecimal). num_chunks 0 means that it is not known yet.
- * To send a chunk of midici_pe_split_chunk, write a message with an empty chunk (1 of 1, no header, no property), and let
- * midici_pe_split_chunk write behind its first MIDICI_PE_CI_HEADER_LEN bytes.
+ * To send a chunk that was cut, write a message with an empty chunk (1 of 1, no header, no property); behind its first
+ * MIDICI_PE_CI_HEADER_LEN bytes put the chunk of midici_pe_split, or let midici_pe_split_chunk write there.
  * Refusals: 28 source or dest above 0FFFFFFF; 24 a kind that carries no chunk; 1 request_id above 7F, header_len,
- * property_len, num_chunks or chunk_num above 16,383, or a header byte above 7F; 8 a header with a chunk_num other than 1;
- * 3 `out` is too short. `out` is then as it was. */
+ * property_len, num_chunks or chunk_num above 16,383, or a byte of the header or the property above 7F; 8 a header with a
+ * chunk_num other than 1, or a chunk_num above num_chunks, if that is not 0; 3 `out` is too short. `out` is then as it
+ * was. */
 midici_pe_answer midici_pe_encode_message(uint8_t sub_id2, uint32_t source, uint32_t dest, uint8_t request_id,
                                           const uint8_t *header, size_t header_len, uint16_t num_chunks,
                                           uint16_t chunk_num, const uint8_t *property, size_t property_len, uint8_t *out,
@@ -236,18 +257,21 @@ midici_pe_answer midici_pe_new(midici_pe_shape shape, uint64_t *numbers, size_t 
 
 /* Feeds a chunk that came from a peer at the time `now_ms`, in milliseconds of a clock of yours. The list is complete with
  * the chunk that leaves its count known and each number from 1 to the count held. Then `whole` is 1, the header stands in
- * out_header, the body in out_body, in the order of chunk numbers, and the list is closed. Chunks numbered above the count
- * are taken, and joined behind the others. out_header has at least header_bytes elements, out_body at least tx_bytes. Past
- * the list, and with any other answer, both outputs keep their bytes.
- * Refusals that leave everything as it was: 30; 28 peer above 0FFFFFFF; 2, 1 and 8 bytes that are no chunk, 8 being a
- * header on a chunk other than the first; 7; 6; 31.
+ * out_header, the body in out_body, in the order of chunk numbers, and the list is closed. A chunk may leave its count open
+ * (0). A stray chunk, numbered above the count, is turned down, and the list goes on. out_header has at least header_bytes
+ * elements, out_body at least tx_bytes. Past the list, and with any other answer, both outputs keep their bytes.
+ * Refusals that leave everything as it was: 30; 28 peer above 0FFFFFFF; 2, 1 and 8 bytes that are no chunk (1 also for a
+ * property byte above 7F, 8 for a header on a chunk other than the first, and for a number above the chunk's own count); 7;
+ * 6; 31.
  * Refusals of a chunk that reached its list, in the order in which they are asked; the first no is the answer:
  *   4 a header longer than header_bytes; 8 another header than before; 8 another count than before;
+ *   8 a chunk number above the count that is known; 8 a first count below a chunk number that is held;
  *   8 chunk number 0, and the list is closed; 8 a chunk that is there already;
  *   5 no record for another chunk; 5 a body longer than tx_bytes, and the list is closed.
- * The list has then been opened, if it was not open, its time is now_ms, and it may have taken the chunk's header and
- * count, but not its bytes. But for the two cases named it stays open and keeps what it holds: so also where a chunk with
- * number 0 has another count, or one that makes the body too long is there already or finds no record. */
+ * The list has then been opened, if it was not open, its time is now_ms, and it may have taken the chunk's header, and its
+ * count where that was not refused, but not its bytes. But for the two cases named it stays open and keeps what it holds:
+ * so also where a chunk with number 0 has another count or one below a number that is held, or one that makes the body too
+ * long is above the count, is there already or finds no record. */
 midici_pe_fed midici_pe_feed(midici_pe_shape shape, uint64_t *numbers, size_t numbers_len, uint64_t *index,
                              size_t index_len, uint8_t *headers, size_t headers_len, uint8_t *arenas, size_t arenas_len,
                              uint32_t peer, const uint8_t *raw_chunk, size_t raw_chunk_len, uint64_t now_ms,

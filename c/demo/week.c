@@ -1,11 +1,11 @@
 /* The demo: the week of one scene list.
  *
  * A mixer sends its scene list to a hub, in chunks, by two cables. Both ends are played here: the mixer's side cuts the
- * list and writes the messages, the hub's side feeds what arrives and puts the list together. At the weekend the same list
- * comes once more, as a .syx file, whose messages the hub finds and feeds. Of each list that is whole, the hub's staff see
- * the resource, which its header names. Each step is printed, with the bytes that travel. What arrived is compared with
- * what was sent, both times: the exit status is 0 if it is the same, 1 if it is not or if a call answered something else
- * than the step expects. */
+ * list, at once, and sends each chunk behind a CI header; the hub's side feeds what arrives, turns down what does not
+ * belong there, stray chunks among it, and puts the list together. At the weekend the same list comes once more, as a .syx
+ * file, whose messages the hub finds and feeds. Of each list that is whole, the hub's staff see the resource, which its
+ * header names. Each step is printed, with the bytes that travel. What arrived is compared with what was sent, both times:
+ * the exit status is 0 if it is the same, 1 if it is not or if a call answered something else than the step expects. */
 #include "midici_pe.h"
 
 #include <inttypes.h>
@@ -27,7 +27,9 @@ enum {
     LIST_BODY_LEN = 1000,
     MAX_SYSEX = 256, /* no message is longer, F0 and F7 included */
     CHUNKS = 5,
-    FILE_BYTES = 2048, /* room for the file */
+    CUT_BYTES = LIST_HEADER_LEN + LIST_BODY_LEN + 9 * CHUNKS, /* all chunks together */
+    STRAY = 7,                                                /* the number of a chunk that the list has not */
+    FILE_BYTES = 2048,                                        /* room for the file */
 
     GET = 0x34,       /* the kind of a message that asks for a list */
     GET_REPLY = 0x35, /* the kind of a message that brings one */
@@ -47,13 +49,16 @@ static uint64_t fragment_index[INDEX_LEN];
 static uint8_t headers[MIDICI_PE_HEADERS_LEN(PEERS, HEADER_BYTES)];
 static uint8_t arenas[MIDICI_PE_ARENAS_LEN(PEERS, TX_BYTES)];
 
-/* A list as its sender has it. */
+/* A list as its sender has it, and its chunks, one behind the other. */
 struct list {
     uint32_t sender;
     uint8_t request_id;
     const char *resource; /* the one that the header names */
     size_t header_len, body_len;
     uint8_t header[LIST_HEADER_LEN], body[LIST_BODY_LEN];
+    uint64_t chunks, cut_len;
+    uint16_t lengths[CHUNKS];
+    uint8_t cut[CUT_BYTES];
 };
 
 /* A message as it travels, from F0 to F7; without an F7 where the cable was pulled before. */
@@ -163,7 +168,7 @@ static const char *name_of_refusal(uint8_t refusal)
     case MIDICI_PE_TRUNCATED:
         return "MIDICI_PE_TRUNCATED: the chunk ends too early";
     case MIDICI_PE_INCONSISTENT_CHUNKING:
-        return "MIDICI_PE_INCONSISTENT_CHUNKING: it does not go with the chunks before it";
+        return "MIDICI_PE_INCONSISTENT_CHUNKING: it does not go with itself or with the chunks before it";
     case MIDICI_PE_SYX_TOO_MANY_MESSAGES:
         return "MIDICI_PE_SYX_TOO_MANY_MESSAGES: the file has more messages than that";
     default:
@@ -186,6 +191,16 @@ static void print_fed(midici_pe_fed answer)
 
 /* ---- The sender's side ---- */
 
+/* Cuts a list into chunks: one call for all of them. */
+static void cut_list(struct list *list)
+{
+    midici_pe_cut cut = midici_pe_split(list->request_id, list->header, list->header_len, list->body, list->body_len,
+                                        MAX_SYSEX, list->cut, CUT_BYTES, list->lengths, CHUNKS);
+    must(cut.refusal == MIDICI_PE_OK, "the list can be cut");
+    list->chunks = cut.chunks;
+    list->cut_len = cut.bytes;
+}
+
 static void fill_scene_list(struct list *list, uint8_t request_id)
 {
     enum { LINE = 25 };
@@ -203,6 +218,7 @@ static void fill_scene_list(struct list *list, uint8_t request_id)
         must(len == LINE, "a line of the list has 25 bytes");
         memcpy(list->body + scene * LINE, line, LINE);
     }
+    cut_list(list);
 }
 
 /* A shorter list of two chunks. */
@@ -211,15 +227,8 @@ static struct list other_list(uint32_t sender, uint8_t request_id)
     struct list list = {.sender = sender, .request_id = request_id, .resource = "State", .header_len = 20, .body_len = 300};
     memcpy(list.header, "{\"resource\":\"State\"}", list.header_len);
     memset(list.body, name_of(sender)[0], list.body_len);
+    cut_list(&list);
     return list;
-}
-
-static uint64_t count_chunks(const struct list *list)
-{
-    midici_pe_answer count =
-        midici_pe_chunk_count(list->request_id, list->header, list->header_len, list->body, list->body_len, MAX_SYSEX);
-    must(count.refusal == MIDICI_PE_OK, "the list can be cut");
-    return count.count;
 }
 
 /* A message around `len` bytes that already stand behind its F0. */
@@ -253,14 +262,37 @@ static struct message question(uint8_t request_id)
 static struct message message_with_chunk(const struct list *list, uint16_t chunk_num)
 {
     struct message message;
-    uint8_t *ci_header = message.bytes + 1, *chunk = ci_header + MIDICI_PE_CI_HEADER_LEN;
+    uint8_t *ci_header = message.bytes + 1;
+    const uint8_t *chunk = list->cut;
+    for (uint16_t k = 1; k < chunk_num; k++)
+        chunk += list->lengths[k - 1];
     midici_pe_answer written = midici_pe_encode_message(GET_REPLY, list->sender, HUB, list->request_id, NULL, 0, 1, 1, NULL,
                                                         0, ci_header, MAX_SYSEX - 2);
     must(written.refusal == MIDICI_PE_OK, "the CI header can be written");
-    written = midici_pe_split_chunk(list->request_id, list->header, list->header_len, list->body, list->body_len, MAX_SYSEX,
-                                    chunk_num, chunk, MAX_SYSEX - 2 - MIDICI_PE_CI_HEADER_LEN);
-    must(written.refusal == MIDICI_PE_OK, "the chunk can be cut");
-    close_message(&message, MIDICI_PE_CI_HEADER_LEN + written.count);
+    memcpy(ci_header + MIDICI_PE_CI_HEADER_LEN, chunk, list->lengths[chunk_num - 1]);
+    close_message(&message, MIDICI_PE_CI_HEADER_LEN + list->lengths[chunk_num - 1]);
+    return message;
+}
+
+/* Writes a stray chunk that tells so many chunks, or 0 for none. */
+static midici_pe_answer write_stray(const struct list *list, uint16_t num_chunks, struct message *message)
+{
+    const char *body = "Scene 057, fader at 008.\n";
+    return midici_pe_encode_message(GET_REPLY, list->sender, HUB, list->request_id, NULL, 0, num_chunks, STRAY,
+                                    (const uint8_t *)body, strlen(body), message->bytes + 1, MAX_SYSEX - 2);
+}
+
+/* A stray chunk as another program might send it. One above its own count is not written: its count is put in later. */
+static struct message stray_message(const struct list *list, uint8_t num_chunks)
+{
+    struct message message;
+    uint8_t *chunk = message.bytes + 1 + MIDICI_PE_CI_HEADER_LEN;
+    must(num_chunks == 0 || write_stray(list, num_chunks, &message).refusal == MIDICI_PE_INCONSISTENT_CHUNKING,
+         "a chunk above its own count is not written");
+    midici_pe_answer written = write_stray(list, 0, &message);
+    must(written.refusal == MIDICI_PE_OK, "a chunk without a count is written");
+    close_message(&message, written.count);
+    chunk[3] = num_chunks; /* behind request number and header length */
     return message;
 }
 
@@ -309,13 +341,13 @@ static midici_pe_fed arrive(char cable, uint32_t sender, const struct message *m
                        received);
 }
 
-/* One chunk on its way: cut, written, sent by a cable, fed to the table. */
+/* One chunk on its way: put behind a CI header, sent by a cable, fed to the table. */
 static midici_pe_fed send_chunk(char cable, const struct list *list, uint16_t chunk_num, uint64_t now_ms,
                                 struct received *received)
 {
     struct message message = message_with_chunk(list, chunk_num);
     printf("  %4" PRIu64 " ms: chunk %u of %" PRIu64 " from the %s comes by cable %c, in a message of %zu bytes:\n",
-           now_ms % DAY_MS, chunk_num, count_chunks(list), name_of(list->sender), cable, message.len);
+           now_ms % DAY_MS, chunk_num, list->chunks, name_of(list->sender), cable, message.len);
     print_message(&message);
     return arrive(cable, list->sender, &message, now_ms, received);
 }
@@ -413,8 +445,9 @@ static void print_cut(const struct list *list)
            list->header_len, list->body_len, MAX_SYSEX);
     print_text("header", list->header, list->header_len);
     print_text("body", list->body, list->body_len);
-    printf("  So it is cut into %" PRIu64 " chunks, whose messages have", count_chunks(list));
-    must(count_chunks(list) == CHUNKS, "there are five chunks");
+    printf("  So it is cut into %" PRIu64 " chunks, %s bytes all together, whose messages have", list->chunks,
+           in_thousands(list->cut_len));
+    must(list->chunks == CHUNKS && list->cut_len == CUT_BYTES, "there are five chunks");
     for (uint16_t chunk_num = 1; chunk_num <= CHUNKS; chunk_num++)
         printf(" %zu%s", message_with_chunk(list, chunk_num).len, chunk_num < CHUNKS ? "," : " bytes.\n");
 }
@@ -464,6 +497,23 @@ static void begin_others(uint8_t request_id, uint64_t day, struct received *scra
     expect_waiting(send_chunk('A', &lights, 1, day, scratch));
 }
 
+/* A chunk of a longer list gets in between, twice: with this list's count, and without one. The list goes on. */
+static void send_strays(const struct list *list, uint64_t now_ms, struct received *received)
+{
+    struct message message = stray_message(list, CHUNKS);
+    printf("  %4" PRIu64 " ms: a stray chunk from the mixer comes by cable A, number %d of %d:\n", now_ms % DAY_MS, STRAY,
+           CHUNKS);
+    print_message(&message);
+    expect_refused(arrive('A', MIXER, &message, now_ms, received), MIDICI_PE_INCONSISTENT_CHUNKING);
+    printf("      A number above the chunk's own count: it changes nothing.\n");
+    message = stray_message(list, 0);
+    printf("  %4" PRIu64 " ms: it comes again by cable B, and does not tell a count:\n", (now_ms + 10) % DAY_MS);
+    print_message(&message);
+    expect_refused(arrive('B', MIXER, &message, now_ms + 10, received), MIDICI_PE_INCONSISTENT_CHUNKING);
+    printf("      The list has %d chunks, so number %d is none of them. The list stays open and keeps what it holds.\n",
+           CHUNKS, STRAY);
+}
+
 static void thursday(const struct list *list, struct received *received, struct received *scratch)
 {
     const uint64_t day = 3 * (uint64_t)DAY_MS;
@@ -475,6 +525,7 @@ static void thursday(const struct list *list, struct received *received, struct 
     expect_waiting(send_chunk('B', list, 5, day + 30, received));
     expect_refused(send_chunk('A', list, 3, day + 40, received), MIDICI_PE_INCONSISTENT_CHUNKING);
     printf("      Chunk 3 is there already. The list stays open and keeps what it holds.\n");
+    send_strays(list, day + 50, received);
     print_open_lists(4);
     print_totals(4);
     poll_table(day + MIDICI_PE_TIMEOUT_MS - 1, 0);

@@ -4,7 +4,7 @@
 
 #include <string.h>
 
-enum { SMALL = 4096, LARGE = 65536 + 64 };
+enum { SMALL = 4096, LARGE = 65536 + 64, MOST_HEADER = 20000, MOST_BODY = 4 * SMALL, MOST_OUT = 48000 };
 
 unsigned take(struct input *input)
 {
@@ -120,9 +120,9 @@ static void make_rooms(struct lending *lending, size_t len)
 {
     for (int slice = 0; slice < LENT; slice++)
         lent_make(&lending->table.lent[slice], len);
-    lent_make(&lending->header, 20000);
+    lent_make(&lending->header, MOST_HEADER);
     lent_make(&lending->body, 20000);
-    lent_make(&lending->out, SMALL);
+    lent_make(&lending->out, MOST_OUT);
     lent_make(&lending->places, SMALL);
     lent_make(&lending->lengths, SMALL);
 }
@@ -242,6 +242,11 @@ void choose_chunk(struct input *input, const struct table *table, struct lent *b
         header_len = least(table->shape.header_bytes + 1, 5000);
     if (odd == 17)
         property_len = least(table->shape.tx_bytes + 1, 10000);
+    if (odd >= 24 && odd < 88) { /* a chunk that does not tell its count, or does so late; its number may be a stray one */
+        number = take(input) % 6;
+        count = odd < 64 ? 0 : number + take(input) % 2;
+        header_len = number == 1 ? 2 : 0;
+    }
     lent_resize(bytes, before + 9 + header_len + property_len);
     add_byte(bytes, &len, request_id);
     add_u14(bytes, &len, header_len);
@@ -251,7 +256,9 @@ void choose_chunk(struct input *input, const struct table *table, struct lent *b
     add_u14(bytes, &len, odd == 23 ? take_bits(input, 1) : number);
     add_u14(bytes, &len, property_len);
     for (size_t i = 0; i < property_len; i++)
-        add_byte(bytes, &len, (unsigned)(16 * number + i));
+        add_byte(bytes, &len, (unsigned)(16 * number + i) % 128);
+    if (odd >= 244 && property_len > 0)
+        bytes->at[len - 1 - (odd - 244) % property_len] |= 0x80;
     if (odd >= 248)
         put_any(input, bytes->at + before, len - before);
 }
@@ -267,19 +274,44 @@ void choose_bytes(struct input *input, struct lent *bytes)
 void choose_list(struct input *input, struct lending *lending)
 {
     unsigned odd = take(input);
-    lent_resize_or_null(&lending->header, odd < 240 ? take(input) % 130 : least((size_t)take_bits(input, 2), 20000));
-    lent_resize_or_null(&lending->body, odd < 200 ? take(input) * 3u : least((size_t)take_bits(input, 2), SMALL * 4));
+    lent_resize_or_null(&lending->header, odd < 240 ? take(input) % 130 : least((size_t)take_bits(input, 2), MOST_HEADER));
+    lent_resize_or_null(&lending->body, odd < 200 ? take(input) * 3u : least((size_t)take_bits(input, 2), MOST_BODY));
     lent_resize_or_null(&lending->out, odd % 4 == 0 ? take(input) : MIDICI_PE_CHUNK_LEN);
     for (size_t i = 0; i < lending->header.len; i++)
         lending->header.at[i] = (uint8_t)(i % 128);
     for (size_t i = 0; i < lending->body.len; i++)
-        lending->body.at[i] = (uint8_t)(i * 7);
+        lending->body.at[i] = (uint8_t)(i * 7 % 128);
     if (odd % 8 == 1 && lending->header.len > 0)
         put_any(input, lending->header.at, lending->header.len);
+    if (odd % 8 == 2 && lending->body.len > 0)
+        lending->body.at[(size_t)take_bits(input, 2) % lending->body.len] |= 0x80;
     lent_fill(&lending->out);
     lent_keep(&lending->header);
     lent_keep(&lending->body);
     lent_keep(&lending->out);
+}
+
+void choose_chunk_room(struct input *input, struct lending *lending, uint64_t chunks)
+{
+    unsigned odd = take(input);
+    size_t bytes = lending->header.len + lending->body.len + 9 * (size_t)chunks, places = (size_t)chunks;
+    if (odd < 128) {
+        bytes += odd % 4;
+        places += odd / 4 % 4;
+    } else if (odd < 160) {
+        bytes -= bytes > 0;
+    } else if (odd < 192) {
+        places -= places > 0;
+    } else if (odd < 224) {
+        bytes = (size_t)take_bits(input, 2);
+        places = take(input);
+    }
+    lent_resize_or_null(&lending->out, least(bytes, MOST_OUT));
+    lent_resize_or_null(&lending->lengths, 2 * least(places, SMALL / 2));
+    lent_fill(&lending->out);
+    lent_fill(&lending->lengths);
+    lent_keep(&lending->out);
+    lent_keep(&lending->lengths);
 }
 
 /* Adds a piece to a file: a byte that means something there, any byte, or a run of data bytes. */

@@ -29,12 +29,6 @@ static bool same_answer(midici_pe_answer a, midici_pe_answer b)
     return a.refusal == b.refusal && a.value == b.value && a.count == b.count;
 }
 
-static bool same_told(struct told a, struct told b)
-{
-    return a.refusal == b.refusal && a.value == b.value && a.numbers[0] == b.numbers[0] && a.numbers[1] == b.numbers[1] &&
-           a.numbers[2] == b.numbers[2];
-}
-
 /* After a call, before the model has worked on the kept copies. A chunk that reached its list may be refused and yet leave
  * something. */
 static void check_call(struct lending *lending, const struct call *call, uint8_t refusal)
@@ -55,34 +49,6 @@ static void check_fed(struct lending *lending, struct told fed)
     must(fed.refusal == 0 || (lent_same_from(&table->lent[ARENAS], 0) && lent_same_from(&table->lent[INDEX], 0)),
          "a refused chunk is not taken");
     must(lent_same_from(&lending->body, 0) && lent_guarded(&lending->body), "the chunk or the message stays");
-}
-
-/* A row of the open list stands in the one as often as in the other. */
-static uint64_t count_row(const uint64_t *peers, const uint64_t *ids, const uint64_t *held, uint64_t count,
-                          const uint64_t row[3])
-{
-    uint64_t found = 0;
-    for (uint64_t i = 0; i < count; i++)
-        found += peers[i] == row[0] && ids[i] == row[1] && held[i] == row[2];
-    return found;
-}
-
-/* The order of an open list is free: its rows are compared, and then put as the model has them. */
-static void same_rows(struct table *table, uint64_t count)
-{
-    uint64_t *columns[3], *wanted[3];
-    for (int i = 0; i < 3; i++) {
-        columns[i] = lent_words(&table->lent[OUT_PEERS + i]);
-        wanted[i] = (uint64_t *)(void *)table->lent[OUT_PEERS + i].kept;
-    }
-    for (uint64_t i = 0; i < count; i++) {
-        const uint64_t row[3] = {wanted[0][i], wanted[1][i], wanted[2][i]};
-        must(count_row(columns[0], columns[1], columns[2], count, row) ==
-                 count_row(wanted[0], wanted[1], wanted[2], count, row),
-             "each open list stands in the open list");
-    }
-    for (int i = 0; i < 3 && count > 0; i++)
-        memcpy(columns[i], wanted[i], 8 * count);
 }
 
 /* ---- The calls ---- */
@@ -121,9 +87,9 @@ static void call_table(struct input *input, struct lending *lending, const struc
     check_call(lending, call, told.refusal);
     if (call->bytes != NO_BYTES)
         check_fed(lending, told);
-    must(same_told(told, call->model(table, &given)), call->name);
+    must(told_same(told, call->model(table, &given)), call->name);
     if (call->lent >> OUT_CHUNKS_HELD & 1)
-        same_rows(table, told.numbers[0]);
+        must(table_same_rows(table, told.numbers[0]), "each open list stands in the open list");
     must(table_same(table), call->name);
     lending->is_sound = lending->is_sound || (call == &calls[0] && told.refusal == 0);
 }
@@ -137,6 +103,24 @@ static void check_sent(struct lending *lending, midici_pe_answer answer)
 }
 
 static void call_split(struct input *input, struct lending *lending)
+{
+    struct lent *header = &lending->header, *body = &lending->body, *out = &lending->out, *lengths = &lending->lengths;
+    choose_list(input, lending);
+    uint8_t request_id = (uint8_t)(take(input) % 130);
+    uint32_t max_sysex = take(input) < 128 ? take(input) : (uint32_t)take_number(input);
+    choose_chunk_room(input, lending, model_chunk_count(request_id, header, body, max_sysex).count);
+    midici_pe_cut answer = midici_pe_split(request_id, header->at, header->len, body->at, body->len, max_sysex, out->at,
+                                           out->len, lent_u16s(lengths), lengths->len / 2);
+    must(lent_guarded(out) && lent_guarded(lengths), "nothing before the outputs is written");
+    must(lent_same_from(out, (size_t)answer.bytes) && lent_same_from(lengths, 2 * (size_t)answer.chunks),
+         "bytes and lengths past the chunks stay");
+    must(lent_same_from(header, 0) && lent_same_from(body, 0), "header and body stay");
+    midici_pe_cut model = model_split(request_id, header, body, max_sysex, out, lengths);
+    must(answer.refusal == model.refusal && answer.chunks == model.chunks && answer.bytes == model.bytes, "split");
+    must(lent_same_from(out, 0) && lent_same_from(lengths, 0), "split writes what the model says");
+}
+
+static void call_split_chunk(struct input *input, struct lending *lending)
 {
     struct lent *header = &lending->header, *body = &lending->body, *out = &lending->out;
     choose_list(input, lending);
@@ -159,7 +143,7 @@ static void call_encode_message(struct input *input, struct lending *lending)
     uint8_t sub_id2 = (uint8_t)(take(input) < 200 ? 0x34 + take(input) % 6 : take(input));
     uint32_t source = take_muid(input), dest = take_muid(input);
     uint8_t request_id = (uint8_t)(take(input) % 130);
-    uint16_t num_chunks = (uint16_t)take_number(input), chunk_num = (uint16_t)(take(input) < 200 ? 1 : take_number(input));
+    uint16_t num_chunks = (uint16_t)take_number(input), chunk_num = (uint16_t)(take(input) < 160 ? 1 : take_number(input));
     midici_pe_answer answer =
         midici_pe_encode_message(sub_id2, source, dest, request_id, header->at, header->len, num_chunks, chunk_num,
                                  property->at, property->len, out->at, out->len);
@@ -227,7 +211,10 @@ static void call_any(struct input *input, struct lending *lending)
     const struct call *call = &calls[choice / 16 % rows];
     switch (choice % 16) {
     case 0:
-        call_split(input, lending);
+        if (choice < 128)
+            call_split_chunk(input, lending);
+        else
+            call_split(input, lending);
         break;
     case 1:
         call_encode_message(input, lending);

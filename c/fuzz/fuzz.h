@@ -41,11 +41,15 @@ void fill_table(struct input *input, struct table *table);
 /* Any bytes. */
 void choose_bytes(struct input *input, struct lent *bytes);
 
-/* A chunk that can mostly be read and mostly goes with others, behind `before` bytes. */
+/* A chunk that can mostly be read and mostly goes with others, behind `before` bytes. Strays are among them, and counts
+ * that come late. */
 void choose_chunk(struct input *input, const struct table *table, struct lent *bytes, size_t before);
 
 /* A header, a body and an output for the cutter and the writer. */
 void choose_list(struct input *input, struct lending *lending);
+
+/* Other outputs, for so many chunks of such a list: mostly long enough for all of them together. */
+void choose_chunk_room(struct input *input, struct lending *lending, uint64_t chunks);
 
 /* A file of whole and torn messages with dirt between them, in the place of a body, and the two columns for it. */
 void choose_file(struct input *input, struct lending *lending);

@@ -44,6 +44,23 @@ void add_bytes(struct bytes *bytes, const void *from, size_t len)
     bytes->len += len;
 }
 
+void fill_letters(struct lent *lent, size_t len, uint8_t last)
+{
+    lent_resize_or_null(lent, len);
+    for (size_t i = 0; i < len; i++)
+        lent->at[i] = (uint8_t)('A' + i % 53);
+    if (last != 0 && len > 0)
+        lent->at[len - 1] = last;
+}
+
+size_t any_below(uint64_t *seed, size_t below)
+{
+    *seed ^= *seed << 13;
+    *seed ^= *seed >> 7;
+    *seed ^= *seed << 17;
+    return (size_t)(*seed % below);
+}
+
 struct bytes chunk_of(struct fields fields)
 {
     struct bytes chunk = {.len = 0};

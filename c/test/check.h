@@ -29,6 +29,12 @@ void add_u14(struct bytes *bytes, unsigned number);
 void add_muid(struct bytes *bytes, uint32_t muid);
 void add_bytes(struct bytes *bytes, const void *from, size_t len);
 
+/* Makes a slice `len` letters long, the last of them `last` unless that is 0; NULL where it has no byte. */
+void fill_letters(struct lent *lent, size_t len, uint8_t last);
+
+/* The next of a row of numbers that look random, below `below`. The seed is not 0. */
+size_t any_below(uint64_t *seed, size_t below);
+
 struct bytes chunk_of(struct fields fields);
 struct bytes message_of(uint8_t sub_id2, uint32_t source, uint32_t dest, const struct bytes *chunk);
 
@@ -40,10 +46,12 @@ void make_begun(struct table *table);
 /* Checks a refusal that leaves the table as it was kept. */
 void check_refused(const struct table *table, midici_pe_fed answer, uint8_t refusal, uint8_t value, const char *of);
 
-/* The tests, by subject. */
+/* The tests, by subject. Those with a seed make random calls. */
 void test_sending(void);
+void test_splitting(uint64_t seed);
 void test_feeding(void);
 void test_table_calls(void);
+void test_table_runs(uint64_t seed);
 void test_unreadable(void);
 void test_lent_memory(void);
 void test_files(void);

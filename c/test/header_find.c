@@ -670,15 +670,6 @@ static void test_every_change(struct lending *lending, unsigned long seen[ANSWER
         test_refused(lending, header.at, len, 34, "a header cut off");
 }
 
-/* The next of a row of numbers that look random, below `below`. */
-static size_t any_below(uint64_t *seed, size_t below)
-{
-    *seed ^= *seed << 13;
-    *seed ^= *seed >> 7;
-    *seed ^= *seed << 17;
-    return (size_t)(*seed % below);
-}
-
 /* Where a pair may be added: behind the first brace. */
 static size_t behind_brace(const struct bytes *header)
 {

@@ -103,11 +103,18 @@ static void test_no_peers(const struct call *call)
 static void test_nothing(void)
 {
     uint8_t out[22];
+    uint16_t length = 0;
     midici_pe_answer answer = midici_pe_chunk_count(5, NULL, 0, NULL, 0, 256);
     check(answer.refusal == 0 && answer.count == 1, "one chunk", "a list of nothing");
     check(midici_pe_split_chunk(5, NULL, 0, NULL, 0, 256, 1, NULL, 0).refusal == 3, "no output", "a list of nothing");
     answer = midici_pe_split_chunk(5, NULL, 0, NULL, 0, 256, 1, out, sizeof out);
     check(answer.refusal == 0 && answer.count == 9, "nine bytes", "a list of nothing");
+    check(midici_pe_split(5, NULL, 0, NULL, 0, 256, NULL, 0, NULL, 0).refusal == 3, "no outputs", "a list of nothing");
+    check(midici_pe_split(5, NULL, 0, NULL, 0, 256, NULL, 0, &length, 1).refusal == 3, "no output", "a list of nothing");
+    check(midici_pe_split(5, NULL, 0, NULL, 0, 256, out, sizeof out, NULL, 0).refusal == 3, "no length",
+          "a list of nothing");
+    midici_pe_cut cut = midici_pe_split(5, NULL, 0, NULL, 0, 256, out, sizeof out, &length, 1);
+    check(cut.refusal == 0 && cut.chunks == 1 && cut.bytes == 9 && length == 9, "nine bytes at once", "a list of nothing");
     answer = midici_pe_encode_message(0x34, 1, 2, 5, NULL, 0, 1, 1, NULL, 0, out, sizeof out);
     check(answer.refusal == 0 && answer.count == 22, "22 bytes", "a message of nothing");
     answer = midici_pe_encode_message(0x34, 1, 2, 5, NULL, 0, 1, 1, NULL, 0, NULL, 0);
@@ -180,6 +187,10 @@ static const struct damage {
     {"second record leaves a gap", 0, -2, RECORD(2, 2, 4), 31},
     {"second record has another length", 0, -2, RECORD(2, 3, 3), 31},
     {"largest record", 0, -2, UINT64_MAX, 31},
+    {"second record above the count", 0, -2, RECORD(9, 2, 3), 0},
+    {"no count", 0, NUM_CHUNKS, 0, 0},
+    {"count below the chunk's number", 0, NUM_CHUNKS, 2, 8},
+    {"largest count", 0, NUM_CHUNKS, UINT64_MAX, 8},
     {"free, with a header", 1, HEADER_LEN, 1, 31},
     {"free, with a record", 1, INDEX_LEN, 1, 31},
     {"free, with a body", 1, PROPERTY_BYTES, 1, 31},
@@ -202,7 +213,10 @@ static void test_damage(const struct damage *damage)
         check_refused(&table, table_feed(&table, 1, chunk.at, chunk.len, 9999), 31, 0, damage->name);
         check_refused(&table, table_feed_message(&table, message.at, message.len, 9999), 31, 0, damage->name);
     } else {
+        struct lent raw = {.at = chunk.at, .len = chunk.len};
         check(table_feed(&table, 1, chunk.at, chunk.len, 9999).refusal == damage->refusal, "no 31", damage->name);
+        model_feed(&table, 1, &raw, 9999);
+        check(table_same(&table), "the table is left as it should be", damage->name);
     }
     check(table_memory_stats(&table).refusal == 0, "the totals answer", damage->name);
     check(table_open_list(&table).refusal == 0, "the open list answers", damage->name);
@@ -210,6 +224,23 @@ static void test_damage(const struct damage *damage)
     check(table_cancel(&table, 1, 6).refusal == 0, "the cancel answers", damage->name);
     check(table_drop_peer(&table, 1).refusal == 0, "the drop answers", damage->name);
     check(table_guarded(&table), "nothing is written before a slice", damage->name);
+    table_free(&table);
+}
+
+/* Records with numbers that no chunk has, and no count: every first count is below them. */
+static void test_damaged_numbers(void)
+{
+    struct table table;
+    struct bytes largest = chunk_of((struct fields){5, "", 16383, 3, "f"}),
+                 none = chunk_of((struct fields){5, "", 0, 3, "f"});
+    make_begun(&table);
+    uint64_t *slot = lent_words(&table.lent[NUMBERS]) + slot_at(0, 0);
+    slot[NUM_CHUNKS] = 0;
+    lent_words(&table.lent[INDEX])[1] = RECORD(16384, 2, 3);
+    check(table_feed(&table, 1, largest.at, largest.len, 9999).refusal == 8, "the largest count", "damaged numbers");
+    check(slot[ACTIVE] == 1 && slot[NUM_CHUNKS] == 0 && slot[INDEX_LEN] == 2, "the list stays open", "damaged numbers");
+    check(table_feed(&table, 1, none.at, none.len, 9999).refusal == 0, "a chunk without a count", "damaged numbers");
+    check(table_guarded(&table), "nothing is written before a slice", "damaged numbers");
     table_free(&table);
 }
 
@@ -250,6 +281,7 @@ void test_lent_memory(void)
     test_longest();
     test_no_rooms();
     test_no_table();
+    test_damaged_numbers();
     for (size_t i = 0; i < sizeof damages / sizeof damages[0]; i++)
         test_damage(&damages[i]);
 }

@@ -13,7 +13,7 @@ import sys
 ROOT = pathlib.Path(__file__).resolve().parent.parent.parent
 HEADER = ROOT / 'include' / 'midici_pe.h'
 TYPES = {'u8': ('uint8_t', 1), 'u16': ('uint16_t', 2), 'u32': ('uint32_t', 4), 'u64': ('uint64_t', 8), 'usize': ('size_t', 8)}
-STRUCTS = {'Answer': 'midici_pe_answer', 'FedAnswer': 'midici_pe_fed', 'StatsAnswer': 'midici_pe_stats',
+STRUCTS = {'Answer': 'midici_pe_answer', 'CutAnswer': 'midici_pe_cut', 'FedAnswer': 'midici_pe_fed', 'StatsAnswer': 'midici_pe_stats',
            'SyxAnswer': 'midici_pe_syx', 'FoundAnswer': 'midici_pe_found', 'RequestId': 'midici_pe_request_id',
            'Shape': 'midici_pe_shape'}
 

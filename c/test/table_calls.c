@@ -136,6 +136,24 @@ static void test_poll(void)
     table_free(&table);
 }
 
+/* A chunk above the known count keeps its list from being closed, one above its own count does not: it never reached it. */
+static void test_poll_strays(void)
+{
+    struct table table;
+    const uint64_t peers[] = {2, 2, 1, 1}, ids[] = {21, 22, 12, 11};
+    struct bytes above_known = chunk_of((struct fields){11, "", 0, 3, "x"}),
+                 above_own = chunk_of((struct fields){21, "", 2, 3, "x"});
+    make_open(&table);
+    struct bytes again = chunk_of((struct fields){12, "", 0, 16383, "x"});
+    check(table_feed(&table, 1, again.at, again.len, 1500).refusal == 8, "above the known count", "poll");
+    check(table_feed(&table, 1, above_known.at, above_known.len, 2000).refusal == 8, "above the known count", "poll");
+    check(table_feed(&table, 2, above_own.at, above_own.len, 2000).refusal == 8, "above its own count", "poll");
+    check_poll(&table, 4002, 1, peers, ids);
+    check_poll(&table, 4499, 1, peers + 1, ids + 1);
+    check_poll(&table, 5000, 2, peers + 2, ids + 2);
+    table_free(&table);
+}
+
 /* The clock goes back between two chunks: the order is that of the chunks, and a list whose time lies ahead stays. */
 static void test_poll_back(void)
 {
@@ -153,26 +171,32 @@ static void test_poll_back(void)
 
 static void test_open_list(void)
 {
+    enum { OPEN = 6 };
     struct table table;
     make_open(&table);
     struct bytes chunk = chunk_of((struct fields){21, "", 3, 2, "x"});
     check(table_feed(&table, 2, chunk.at, chunk.len, 0).refusal == 8, "another count", "open list");
     chunk = chunk_of((struct fields){21, "", 0, 3, "x"});
+    check(table_feed(&table, 2, chunk.at, chunk.len, 0).refusal == 8, "a number above the count", "open list");
+    open_one(&table, 2, 23, 0);
+    chunk = chunk_of((struct fields){24, "", 0, 3, "x"});
+    check(table_feed(&table, 2, chunk.at, chunk.len, 0).refusal == 0, "a list without a count", "open list");
+    chunk = chunk_of((struct fields){24, "", 3, 2, "x"});
     check(table_feed(&table, 2, chunk.at, chunk.len, 0).refusal == 0, "a second chunk", "open list");
     table_keep(&table);
     midici_pe_answer answer = table_open_list(&table);
-    check(answer.refusal == 0 && answer.value == 0 && answer.count == 4, "how many are open", "open list");
+    check(answer.refusal == 0 && answer.value == 0 && answer.count == OPEN, "how many are open", "open list");
     const uint64_t *peers = lent_words(&table.lent[OUT_PEERS]), *ids = lent_words(&table.lent[OUT_REQUEST_IDS]),
                    *held = lent_words(&table.lent[OUT_CHUNKS_HELD]);
-    const uint64_t wanted[4][3] = {{1, 11, 1}, {1, 12, 1}, {2, 21, 2}, {2, 22, 1}};
-    for (int w = 0; w < 4; w++) {
+    const uint64_t wanted[OPEN][3] = {{1, 11, 1}, {1, 12, 1}, {2, 21, 1}, {2, 22, 1}, {2, 23, 1}, {2, 24, 2}};
+    for (int w = 0; w < OPEN; w++) {
         int found = 0;
-        for (int i = 0; i < 4; i++)
+        for (int i = 0; i < OPEN; i++)
             found += peers[i] == wanted[w][0] && ids[i] == wanted[w][1] && held[i] == wanted[w][2];
         check(found == 1, "each open list stands there once", "open list");
     }
     for (int slice = 0; slice < LENT; slice++)
-        check(lent_same_from(&table.lent[slice], slice >= OUT_PEERS ? 8 * 4 : 0), "all else stays", "open list");
+        check(lent_same_from(&table.lent[slice], slice >= OUT_PEERS ? 8 * OPEN : 0), "all else stays", "open list");
     check(table_guarded(&table), "nothing is written before a slice", "open list");
     table_free(&table);
 }
@@ -303,10 +327,10 @@ static void test_full_size(void)
 }
 
 /* As many chunks of one byte as a list can hold, the last one first. With a gap their numbers above the count are every
- * other one. */
+ * other one: since calls leave no such list, the count is then written into the table's memory, before the last chunk. */
 static void test_most_chunks(bool gap)
 {
-    enum { MOST = MIDICI_PE_FRAGMENT_RECORDS, COUNT = 100 };
+    enum { MOST = MIDICI_PE_FRAGMENT_RECORDS, COUNT = 100, BYTES = 113 };
     const char *of = gap ? "most chunks, with gaps" : "most chunks";
     struct table table;
     midici_pe_fed answer = {.whole = 0};
@@ -317,16 +341,18 @@ static void test_most_chunks(bool gap)
         check(answer.refusal == 0 && answer.whole == 0, "waiting", of);
         add_byte(&chunk, 5);
         add_u14(&chunk, 0);
-        add_u14(&chunk, gap ? COUNT : MOST);
+        add_u14(&chunk, gap ? 0 : MOST);
         add_u14(&chunk, gap && n > COUNT ? 2 * n : n);
         add_u14(&chunk, 1);
-        add_byte(&chunk, n % 251);
+        add_byte(&chunk, n % BYTES);
+        if (gap && n == 1)
+            lent_words(&table.lent[NUMBERS])[slot_at(0, 0) + NUM_CHUNKS] = COUNT;
         answer = table_feed(&table, 7, chunk.at, chunk.len, 0);
     }
     check(answer.whole == 1 && answer.body_len == MOST, "whole with the last", of);
     bool in_order = true;
     for (unsigned n = 1; n <= MOST; n++)
-        in_order = in_order && table.lent[OUT_BODY].at[n - 1] == n % 251;
+        in_order = in_order && table.lent[OUT_BODY].at[n - 1] == n % BYTES;
     check(in_order, "joined in the order of numbers", of);
     check(table_guarded(&table), "nothing is written before a slice", of);
     table_free(&table);
@@ -338,6 +364,7 @@ void test_table_calls(void)
     test_cancel();
     test_drop();
     test_poll();
+    test_poll_strays();
     test_poll_back();
     test_open_list();
     test_totals();

@@ -31,6 +31,20 @@ static const struct chunk_case {
     {"header on chunk 3", 8, 11, {5, 2, 0, 'H', 'D', 3, 0, 3, 0, 0, 0}},
     {"header on chunk 0", 8, 11, {5, 2, 0, 'H', 'D', 3, 0, 0, 0, 0, 0}},
     {"left over, asked before the header", 1, 12, {5, 2, 0, 'H', 'D', 3, 0, 3, 0, 0, 0, 0}},
+    {"property byte", 1, 10, {5, 0, 0, 3, 0, 3, 0, 1, 0, 0x80}},
+    {"property byte, the first", 1, 12, {5, 0, 0, 3, 0, 3, 0, 3, 0, 0x80, 'y', 'z'}},
+    {"property byte, the last", 1, 12, {5, 0, 0, 3, 0, 3, 0, 3, 0, 'x', 'y', 0xFF}},
+    {"property byte, and number 0", 1, 10, {5, 0, 0, 1, 0, 0, 0, 1, 0, 0xFF}},
+    {"property cut short, asked before its bytes", 2, 10, {5, 0, 0, 3, 0, 3, 0, 2, 0, 0xFF}},
+    {"property byte, and a byte left over", 1, 11, {5, 0, 0, 3, 0, 3, 0, 1, 0, 0xFF, 0}},
+    {"property byte, asked before the header", 1, 12, {5, 2, 0, 'H', 'D', 3, 0, 2, 0, 1, 0, 0xFF}},
+    {"property byte, asked before the count", 1, 10, {5, 0, 0, 2, 0, 3, 0, 1, 0, 0x80}},
+    {"number above the count", 8, 9, {5, 0, 0, 2, 0, 3, 0, 0, 0}},
+    {"number 5 of 2", 8, 10, {5, 0, 0, 2, 0, 5, 0, 1, 0, 'x'}},
+    {"number 128 of 127", 8, 9, {5, 0, 0, 0x7F, 0, 0, 1, 0, 0}},
+    {"number 16,383 of 16,382", 8, 9, {5, 0, 0, 0x7E, 0x7F, 0x7F, 0x7F, 0, 0}},
+    {"number above the count, with a header", 8, 11, {5, 2, 0, 'H', 'D', 2, 0, 3, 0, 0, 0}},
+    {"left over, asked before the count", 1, 10, {5, 0, 0, 2, 0, 3, 0, 0, 0, 0}},
 };
 
 static void test_chunk_case(const struct chunk_case *c)
