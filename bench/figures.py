@@ -41,21 +41,26 @@ class Row:
         return 1 / self.by["copies"] if self.table == "files" else None
 
     def target(self):
-        """The most that port / Rust may be."""
+        """The most that port / Rust may be, if anything."""
+        if self.table == "chunk by chunk":
+            return None
+        if self.table == "split" and "65536 bytes" in self.name:
+            return 0.5
         return 0.6 if "65536 bytes at 128" in self.name else 1.0
 
     def copies_target(self):
-        """The most that port / two copies may be."""
-        return 1.5 if "65536 bytes at 4096" in self.name else None
+        """The most that port / two copies may be, if anything."""
+        return 1.5 if "65536 bytes at 4096" in self.name and self.target() else None
 
     def time_target(self):
         """The most nanoseconds that the port may take."""
         return 5_000_000 if self.table == "headers" else None
 
     def misses(self):
+        slower = self.target() and self.ratio() > self.target()
         over = self.copies_target() and self.copies_ratio() > self.copies_target()
         slow = self.time_target() and self.median["port"] > self.time_target()
-        return self.ratio() > self.target() or bool(over or slow)
+        return bool(slower or over or slow)
 
 
 def rows():

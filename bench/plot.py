@@ -1,4 +1,4 @@
-"""Draws docs/benchmarks.svg: the ratios of all tables but growth as bars, and the cost of one feed by the records held."""
+"""Draws docs/benchmarks.svg: the ratios of all tables that have targets, but growth, as bars, and the cost of one feed by the records held."""
 
 import math
 from html import escape
@@ -45,7 +45,7 @@ def bar(row, y, unit):
 
 
 def bars(found, top):
-    """The bars of all tables but growth, and where they end."""
+    """The bars of the rows, and where they end."""
     unit = (RIGHT - LEFT) / min(LONGEST, max(1.2, max(row.ratio() for row in found)))
     title = f"Time of the port / time of the Rust (upright mark: the target; cut at {LONGEST:g})"
     drawn, y = text(20, top, title, weight="bold", size=14), top + 14
@@ -100,7 +100,7 @@ def growth(found, top):
 
 def main():
     found = rows()
-    drawn, end = bars([row for row in found if row.table != "growth"], 28)
+    drawn, end = bars([row for row in found if row.table != "growth" and row.target()], 28)
     drawn += growth(found, end + 30)
     height = end + 360
     head = f'<svg xmlns="http://www.w3.org/2000/svg" width="{WIDTH}" height="{height}" viewBox="0 0 {WIDTH} {height}" font-family="sans-serif">\n'

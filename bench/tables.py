@@ -10,7 +10,8 @@ BEGIN = "<!-- written by make bench -->\n"
 END = "<!-- end -->\n"
 TITLES = {
     "feed": "Feed: one list, from an empty slot until it is whole",
-    "split": "Split: one list, its chunks counted and all of them written",
+    "split": "Split: one list, all its chunks written by one call",
+    "chunk by chunk": "Split, chunk by chunk: one list, its chunks counted, and each written by a call of its own",
     "readers": "Readers: one call",
     "growth": "Growth: one feed, by the records that its slot holds before",
     "files": "Files: one .syx file, all its messages listed",

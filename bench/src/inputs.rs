@@ -77,15 +77,27 @@ impl List {
 
     pub fn new(body_len: usize, max_sysex: u32) -> &'static List {
         let rng = &mut rng();
-        keep(List { header: seven_bit(rng, 48), body: bytes(rng, body_len), max_sysex })
+        keep(List { header: seven_bit(rng, 48), body: seven_bit(rng, body_len), max_sysex })
     }
 
-    pub fn name(&self, order: Order) -> String {
-        format!("{} bytes at {}, {}", self.body.len(), self.max_sysex, order.name())
+    pub fn name(&self) -> String {
+        format!("{} bytes at {}", self.body.len(), self.max_sysex)
     }
 
     pub fn chunks(&self) -> Vec<Vec<u8>> {
         split(REQUEST_ID, &self.header, &self.body, self.max_sysex).expect("a list that can be cut")
+    }
+
+    /// The same, but that the last one alone tells the count.
+    pub fn chunks_with_late_count(&self) -> Vec<Vec<u8>> {
+        let chunks = self.chunks();
+        let last = chunks.len() - 1;
+        let told = |(k, raw_chunk): (usize, &Vec<u8>)| {
+            let mut chunk = PeChunk::decode(raw_chunk).expect("a chunk of a list");
+            chunk.num_chunks = if k == last { chunk.num_chunks } else { 0 };
+            chunk.to_vec().expect("a chunk that can be written")
+        };
+        chunks.iter().enumerate().map(told).collect()
     }
 }
 
@@ -96,6 +108,7 @@ pub fn one_byte_chunks(request_id: u8) -> Vec<Vec<u8>> {
 
 fn one_byte_chunk(request_id: u8, chunk_num: u16) -> Vec<u8> {
     let header = if chunk_num == 1 { b"{}".to_vec() } else { Vec::new() };
-    let chunk = PeChunk { request_id, header, num_chunks: FRAGMENT_RECORDS as u16, chunk_num, property: vec![chunk_num as u8] };
+    let property = vec![chunk_num as u8 & 0x7F];
+    let chunk = PeChunk { request_id, header, num_chunks: FRAGMENT_RECORDS as u16, chunk_num, property };
     chunk.to_vec().expect("a chunk that can be written")
 }

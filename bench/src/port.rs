@@ -60,6 +60,12 @@ pub fn split_chunk(list: &List, chunk_num: u16, out: &mut [u8]) -> usize {
     exports::midici_pe_split_chunk(REQUEST_ID, &list.header, &list.body, list.max_sysex, chunk_num, out).count as usize
 }
 
+/// Writes all chunks of the list into out, one behind the other, and their lengths: how many chunks, and how many bytes.
+pub fn split(list: &List, out: &mut [u8], lengths: &mut [u16]) -> (usize, usize) {
+    let answer = exports::midici_pe_split(REQUEST_ID, &list.header, &list.body, list.max_sysex, out, lengths);
+    (answer.chunks as usize, answer.bytes as usize)
+}
+
 /// Reads an Mcoded7 text into out: how many bytes it has.
 pub fn mcoded7_decode(text: &[u8], out: &mut [u8]) -> usize {
     exports::codec_mcoded7_decode(text, out).count as usize

@@ -1,4 +1,5 @@
 //! The calls on a table, a row for each.
+use crate::beyond::OF_SLOT;
 use crate::export::{export, Export};
 use crate::lent::Part;
 use crate::outcome::Refusal;
@@ -27,6 +28,13 @@ pub struct Row {
 
 const fn row(name: &'static str, refusals: &'static [u8], lent: &'static [Part], tells: Tells) -> Row {
     Row { export: export(name, refusals), lent, tells }
+}
+
+impl Row {
+    /// It feeds a chunk: what K3 turns down is left out of the runs.
+    const fn feeds(self) -> Row {
+        Row { export: Export { beyond: &OF_SLOT, ..self.export }, ..self }
+    }
 }
 
 const NUMBERS: [Part; 1] = [Part::Numbers];
@@ -92,10 +100,10 @@ calls! {
     New: row("midici_pe_new", &[30], &TABLE, Tells::Granted),
         |_, _| [0; 3];
     Feed { peer: u32, raw_chunk: Vec<u8>, now_ms: u64 }:
-        row("midici_pe_feed", &[30, 28, 2, 1, 8, 7, 6, 31, 4, 5], &FED, Tells::Whole),
+        row("midici_pe_feed", &[30, 28, 2, 1, 8, 7, 6, 31, 4, 5], &FED, Tells::Whole).feeds(),
         |r, written| fed(r.feed(muid(*peer)?, raw_chunk, *now_ms)?, written);
     FeedMessage { body: Vec<u8>, now_ms: u64 }:
-        row("midici_pe_feed_message", &[30, 21, 22, 23, 26, 24, 2, 1, 8, 7, 6, 31, 4, 5], &FED, Tells::Whole),
+        row("midici_pe_feed_message", &[30, 21, 22, 23, 26, 24, 2, 1, 8, 7, 6, 31, 4, 5], &FED, Tells::Whole).feeds(),
         |r, written| fed(feed_message(r, body, *now_ms)?, written);
     Cancel { peer: u32, request_id: u8 }: row("midici_pe_cancel", &[30, 28], &NUMBERS, Tells::Whether),
         |r, _| [r.cancel(muid(*peer)?, *request_id).into(), 0, 0];

@@ -1,14 +1,17 @@
 //! The port's exports, and the numbers with which each can refuse.
+use crate::beyond::Beyond;
 
-/// Its name, and the numbers of the questions that it can answer no, in document 01's order, or 02's.
+/// Its name, and the numbers of the questions that it can answer no, in document 01's order, or 02's; and which of them are K3's,
+/// so that the original gives another answer.
 #[derive(Clone, Copy)]
 pub struct Export {
     pub name: &'static str,
     pub refusals: &'static [u8],
+    pub beyond: &'static [Beyond],
 }
 
 pub const fn export(name: &'static str, refusals: &'static [u8]) -> Export {
-    Export { name, refusals }
+    Export { name, refusals, beyond: &[] }
 }
 
 /// "Numbers 1 to 9 are `PeError`'s cases in its order, 21 to 28 `CiError`'s, 29 to 31 the port's." And 32 to 35 are document 02's:

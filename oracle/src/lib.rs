@@ -1,5 +1,6 @@
 //! The original's side of the comparison: the functions that are compared, their inputs as bytes, runs of calls on a table, and
 //! the original's answers.
+pub mod beyond;
 pub mod call;
 pub mod case;
 pub mod damage;

@@ -1,4 +1,5 @@
 //! The functions that are compared, a row for each.
+use crate::beyond::{Beyond, Reading, OF_CHUNK, OF_CUTTER};
 use crate::export::{export, Export};
 use crate::functions::{chunks, controller, cutter, json, mcoded7, messages, muids, records, syx, wire};
 use crate::inputs::{self, Each};
@@ -16,6 +17,8 @@ pub struct Row {
     pub original: fn(&[u8], Vec<u8>) -> Outcome,
     /// Has the original such a function? Else a reading of document 02 stands in for it.
     pub in_original: bool,
+    /// The reading of document 02 where K3 brings it a question.
+    pub reading: Option<Reading>,
     /// Has it so few inputs that all are compared?
     pub all_compared: bool,
     /// How many bytes of output it is lent, by its input.
@@ -34,8 +37,18 @@ const fn row(
     original: fn(&[u8], Vec<u8>) -> Outcome,
 ) -> Row {
     let export = export(name, refusals);
-    let room = inputs::no_room;
-    Row { export, inputs, random, original, in_original: true, all_compared: false, room, tells_whether: false, replayed: true }
+    Row {
+        export,
+        inputs,
+        random,
+        original,
+        in_original: true,
+        reading: None,
+        all_compared: false,
+        room: inputs::no_room,
+        tells_whether: false,
+        replayed: true,
+    }
 }
 
 impl Row {
@@ -51,6 +64,16 @@ impl Row {
     /// It writes two columns of words, which are one output here.
     const fn writes_columns(self) -> Row {
         Row { room: syx::columns_room, ..self }
+    }
+
+    /// It writes chunks and their lengths, which are one output here.
+    const fn writes_chunks(self) -> Row {
+        Row { room: cutter::chunks_room, ..self }
+    }
+
+    /// K3 brings it these questions.
+    const fn beyond(self, beyond: &'static [Beyond], reading: Reading) -> Row {
+        Row { export: Export { beyond, ..self.export }, reading: Some(reading), ..self }
     }
 
     const fn not_in_original(self) -> Row {
@@ -142,11 +165,14 @@ functions! {
     NegotiatedRequests: row("codec_negotiated_requests", &[], inputs::any_two, inputs::random_two,
         controller::negotiated_requests).all_compared();
     /// The chunk.
-    ChunkDecode: row("codec_decode_fields", &[2, 1, 8], chunks::to_decode, chunks::damaged, chunks::decode);
+    ChunkDecode: row("codec_decode_fields", &[2, 1, 8], chunks::to_decode, chunks::damaged,
+        chunks::decode).beyond(&OF_CHUNK, chunks::decode_by_02);
     /// Room (2), CHUNK.
-    ChunkEncode: row("codec_encode_chunk", &[1, 8, 3], chunks::to_encode, chunks::random_to_encode, chunks::encode).writes();
+    ChunkEncode: row("codec_encode_chunk", &[1, 8, 3], chunks::to_encode, chunks::random_to_encode,
+        chunks::encode).beyond(&OF_CHUNK, chunks::encode_by_02).writes();
     /// Room (2), the chunk.
-    ChunkRewrite: row("codec_rewrite", &[2, 1, 8, 3], chunks::to_rewrite, chunks::random_to_rewrite, chunks::rewrite).writes();
+    ChunkRewrite: row("codec_rewrite", &[2, 1, 8, 3], chunks::to_rewrite, chunks::random_to_rewrite,
+        chunks::rewrite).beyond(&OF_CHUNK, chunks::rewrite_by_02).writes();
     /// Limit (4); so too the next two.
     ClampMaxSysex: row("codec_clamp_max_sysex", &[], cutter::limits, cutter::random_limit, cutter::clamp_max_sysex);
     PePayloadBudget: row("codec_pe_payload_budget", &[], cutter::limits, cutter::random_limit, cutter::pe_payload_budget);
@@ -155,13 +181,14 @@ functions! {
     FirstCapacity: row("codec_first_chunk_property_capacity", &[4], cutter::header_lengths, cutter::random_header_length,
         cutter::first_capacity);
     /// LIST.
-    ChunkCount: row("midici_pe_chunk_count", &[1, 4, 5], cutter::to_count, cutter::random_to_count, cutter::chunk_count);
+    ChunkCount: row("midici_pe_chunk_count", &[1, 4, 5], cutter::to_count, cutter::random_to_count,
+        cutter::chunk_count).beyond(&OF_CUTTER, cutter::chunk_count_by_02);
     /// Room (2), chunk number (2), LIST.
     SplitChunk: row("midici_pe_split_chunk", &[1, 4, 5, 29, 3], cutter::to_split, cutter::random_to_split,
-        cutter::split_chunk).writes();
+        cutter::split_chunk).beyond(&OF_CUTTER, cutter::split_chunk_by_02).writes();
     /// Room (2), kind, source (4), destination (4), CHUNK.
     WholeEncode: row("midici_pe_encode_message", &[28, 24, 1, 8, 3], chunks::whole_to_encode, chunks::random_whole_to_encode,
-        chunks::whole_encode).writes();
+        chunks::whole_encode).beyond(&OF_CHUNK, chunks::whole_encode_by_02).writes();
     /// Chunk number (2), records, eight bytes each.
     Position: row("codec_position", &[], records::to_search, records::random_to_search,
         records::position).tells_whether().not_replayed();
@@ -171,6 +198,9 @@ functions! {
     /// The header's length (2), the header, the name.
     HeaderFind: row("midici_pe_header_find", &[33, 34, 35], json::headers, json::random_header,
         json::find).not_in_original().tells_whether().not_replayed();
+    /// Room for the chunks (4), places for their lengths (2), LIST.
+    Split: row("midici_pe_split", &[1, 4, 5, 3], cutter::to_split_all, cutter::random_to_split_all,
+        cutter::split_all).beyond(&OF_CUTTER, cutter::split_all_by_02).writes_chunks().not_replayed();
 }
 
 impl Op {

@@ -1,10 +1,41 @@
-//! The original's answers.
+//! The original's answers, and what the port is to answer.
 pub mod table;
 
+use crate::beyond::{Beyond, No};
 use crate::case::Case;
-use crate::outcome::Outcome;
+use crate::outcome::{Outcome, Refusal, Reply};
 
 /// The original's answer to a case, with the output that is lent.
 pub fn answer(case: &Case, out: Vec<u8>) -> Outcome {
     (case.op.row().original)(&case.input, out)
+}
+
+/// What K3 turns down of a case, where it does: it is left out of the comparison with the original.
+pub fn left_out(case: &Case) -> Option<(Refusal, Beyond)> {
+    let No { refusal, beyond } = (case.op.row().reading?)(&case.input).err()?;
+    Some((refusal, beyond?))
+}
+
+/// What the port is to answer to a case, with the output that is lent: what the original answers; or the refusal that K3 brings,
+/// and then the output is as it was.
+pub fn expected(case: &Case, out: Vec<u8>) -> Result<(Outcome, Option<Beyond>), String> {
+    let original = answer(case, out.clone());
+    if let Some((refusal, beyond)) = left_out(case) {
+        if original.reply == Err(refusal) {
+            return Err(format!("{case}\n  is left out, and the original answers the same: {original}"));
+        }
+        return Ok((Outcome { reply: Err(refusal), out }, Some(beyond)));
+    }
+    match by_02(case) {
+        Some(reply) if reply != original.reply => {
+            Err(format!("{case}\n  the original: {original}\n  document 02, where K3 turns nothing down: {reply:?}"))
+        }
+        _ => Ok((original, None)),
+    }
+}
+
+/// What document 02's reading answers, where there is one.
+fn by_02(case: &Case) -> Option<Reply> {
+    let reading = case.op.row().reading?;
+    Some(reading(&case.input).map_err(|no| no.refusal))
 }

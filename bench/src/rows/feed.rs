@@ -10,12 +10,16 @@ use std::hint::black_box;
 pub fn each(visit: &mut impl FnMut(Row)) {
     for list in List::all() {
         for order in Order::ALL {
-            visit(row(list.name(order), order.of(list.chunks())).beside_copies(&list.body));
+            let name = format!("{}, {}", list.name(), order.name());
+            visit(row(name, order.of(list.chunks())).beside_copies(&list.body));
         }
     }
     for order in Order::ALL {
         visit(row(format!("{FRAGMENT_RECORDS} chunks of one byte, {}", order.name()), order.of(one_byte_chunks(REQUEST_ID))));
     }
+    let list = List::new(65_536, 256);
+    let name = format!("{}, count told by the last chunk", list.name());
+    visit(row(name, Order::InOrder.of(list.chunks_with_late_count())).beside_copies(&list.body));
 }
 
 fn row(name: String, chunks: Chunks) -> Row {

@@ -36,7 +36,7 @@ fn many(make: impl FnMut(usize) -> Vec<u8>) -> Inputs {
 }
 
 fn with_long_header(rng: &mut Rng) -> Vec<u8> {
-    split(REQUEST_ID, &seven_bit(rng, 4_000), &bytes(rng, 10), 4_096).expect("a list that can be cut").remove(0)
+    split(REQUEST_ID, &seven_bit(rng, 4_000), &seven_bit(rng, 10), 4_096).expect("a list that can be cut").remove(0)
 }
 
 fn message(rng: &mut Rng, sub_id2: u8, data: &[u8]) -> Vec<u8> {

@@ -1,8 +1,8 @@
-//! A list cut: its chunks counted, and each of them written. The Rust gives them all in one new list, in order; the port
-//! writes one after the other into one buffer, in any order.
-use crate::inputs::{List, Order, REQUEST_ID};
+//! A list cut. The Rust gives all chunks in one new list. The port writes them one behind the other into one output, with their
+//! lengths, in one call; or it counts them, and then writes them one by one into one buffer.
+use crate::inputs::{List, REQUEST_ID};
 use crate::port;
-use crate::row::Row;
+use crate::row::{Row, Side};
 use midici_pe::chunker::split;
 use std::hint::black_box;
 
@@ -11,34 +11,47 @@ const ROOM: usize = 4_096;
 
 pub fn each(visit: &mut impl FnMut(Row)) {
     for list in List::all() {
-        Order::ALL.iter().for_each(|order| visit(row(list, *order)));
+        visit(Row::new("split", list.name(), at_once(list), by_rust(list)).beside_copies(&list.body));
+    }
+    for list in List::all() {
+        visit(Row::new("chunk by chunk", list.name(), one_by_one(list), by_rust(list)));
     }
 }
 
-fn row(list: &'static List, order: Order) -> Row {
-    let numbers = order.numbers(port::chunk_count(list));
-    compare(list, &numbers);
-    let mut out = vec![1; ROOM];
-    let by_port = move || {
-        let list = black_box(list);
-        black_box(port::chunk_count(list));
-        for k in &numbers {
-            black_box(port::split_chunk(list, *k, &mut out));
-        }
-    };
-    let by_rust = move || {
+fn by_rust(list: &'static List) -> impl Side {
+    move || {
         let List { header, body, max_sysex } = black_box(list);
         let _ = black_box(split(REQUEST_ID, header, body, *max_sysex));
-    };
-    Row::new("split", list.name(order), by_port, by_rust).beside_copies(&list.body)
+    }
 }
 
-fn compare(list: &List, numbers: &[u16]) {
+/// All chunks with one call.
+fn at_once(list: &'static List) -> impl Side {
     let chunks = list.chunks();
-    assert_eq!(numbers.len(), chunks.len());
+    let (mut out, mut lengths) = (vec![1; chunks.iter().map(Vec::len).sum()], vec![1; chunks.len()]);
+    assert_eq!(port::split(list, &mut out, &mut lengths), (chunks.len(), out.len()));
+    assert_eq!(out, chunks.concat());
+    assert!(lengths.iter().copied().eq(chunks.iter().map(|chunk| chunk.len() as u16)));
+    move || {
+        black_box(port::split(black_box(list), &mut out, &mut lengths));
+    }
+}
+
+/// One chunk with each call. Each of them asks about the whole body.
+fn one_by_one(list: &'static List) -> impl Side {
+    let chunks = list.chunks();
     let mut out = vec![1; ROOM];
-    for k in numbers {
-        let len = port::split_chunk(list, *k, &mut out);
-        assert_eq!(out[..len], chunks[usize::from(*k) - 1]);
+    let count = port::chunk_count(list) as u16;
+    assert_eq!(usize::from(count), chunks.len());
+    for k in 1..=count {
+        let len = port::split_chunk(list, k, &mut out);
+        assert_eq!(out[..len], chunks[usize::from(k) - 1]);
+    }
+    move || {
+        let list = black_box(list);
+        black_box(port::chunk_count(list));
+        for k in 1..=count {
+            black_box(port::split_chunk(list, k, &mut out));
+        }
     }
 }

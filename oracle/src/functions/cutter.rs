@@ -1,7 +1,8 @@
 //! chunker.rs: capacities, and lists that are cut.
-use super::chunks::{body, header, headers, random_header, random_number, random_request_id, IDS};
+use super::chunks::{bodies, body, header, headers, random_body, random_header, random_number, random_request_id, IDS};
+use crate::beyond::{self, Asked};
 use crate::input::{from, u16_at, u32_at, u64_at, List};
-use crate::inputs::{with_random_room, with_room, Each};
+use crate::inputs::{changed, random_room, room, with_random_room, with_room, Each};
 use crate::outcome::{copy_in, Outcome, Refusal};
 use crate::rng::Rng;
 use midici_pe::chunker::{self, first_chunk_property_capacity, later_chunk_property_capacity};
@@ -33,29 +34,51 @@ fn body_lengths(max_sysex: u32, header_len: usize) -> Vec<usize> {
     lengths
 }
 
-/// Lists with all header lengths 0 to 130, and some around what a chunk and a field hold; then a few that the first questions
-/// turn down, or not.
+/// Lists with all header lengths 0 to 130, and some around what a chunk and a field hold, each also with a byte of its body above
+/// 7F; then a few that the first questions turn down, or not.
 fn lists(each: &mut dyn FnMut(List)) {
     let longer = [4_071, 4_072, 4_073, 16_383, 16_384, 16_385];
     for (max_sysex, n) in LIMITS.iter().flat_map(|limit| (0..=130).chain(longer).map(|n| (*limit, n))) {
         let header = &header(n)[..];
         for body_len in body_lengths(max_sysex, n) {
-            each(List { request_id: 5, max_sysex, header, body: &body(body_len) });
+            let body = &body(body_len)[..];
+            each(List { request_id: 5, max_sysex, header, body });
+            if let Some(at) = high_place(max_sysex, n, body_len) {
+                each(List { request_id: 5, max_sysex, header, body: &changed(body, &[(at, 0x80)]) });
+            }
         }
     }
     for (request_id, n) in IDS.iter().flat_map(|id| [0, 1, 104, 105, 16_383, 16_384].map(|n| (*id, n))) {
-        for header in &headers(n) {
-            [0, 1, 300].iter().for_each(|len| each(List { request_id, max_sysex: 128, header, body: &body(*len) }));
+        for (header, len) in headers(n).iter().flat_map(|header| [0, 1, 300].map(|len| (header, len))) {
+            bodies(len).iter().for_each(|body| each(List { request_id, max_sysex: 128, header, body }));
         }
+    }
+    every_place(each);
+}
+
+/// One of a body's places: by the header's length the first, the last of the first piece, the one behind it, or the last.
+fn high_place(max_sysex: u32, header_len: usize, body_len: usize) -> Option<usize> {
+    let first = first_chunk_property_capacity(max_sysex, header_len).unwrap_or(0);
+    let place = [0, first.saturating_sub(1), first, body_len.saturating_sub(1)][header_len % 4];
+    (body_len > 0).then(|| place.min(body_len - 1))
+}
+
+/// A body of four pieces with a byte around 7F at each of its places.
+fn every_place(each: &mut dyn FnMut(List)) {
+    let good = body(90 + 3 * 104);
+    for (at, byte) in (0..good.len()).flat_map(|at| [0x7F, 0x80, 0xFF].map(|byte| (at, byte))) {
+        each(List { request_id: 5, max_sysex: 128, header: b"{\"a\":\"bcde\"}", body: &changed(&good, &[(at, byte)]) });
     }
 }
 
-/// At limit 128, bodies within one of what the most chunks carry, and one of 65,537 chunks.
+/// At limit 128, bodies within one of what the most chunks carry, and one of 65,537 chunks; also with the last byte above 7F.
 fn long_lists(each: &mut dyn FnMut(List)) {
     for n in [0, 1, 104] {
         let full = (104 - n) + 16_382 * 104;
         for len in [full - 1, full, full + 1, (104 - n) + 65_536 * 104] {
-            each(List { request_id: 5, max_sysex: 128, header: &header(n), body: &body(len) });
+            let (header, body) = (&header(n)[..], body(len));
+            each(List { request_id: 5, max_sysex: 128, header, body: &body });
+            each(List { request_id: 5, max_sysex: 128, header, body: &changed(&body, &[(len - 1, 0xFF)]) });
         }
     }
 }
@@ -86,6 +109,29 @@ pub fn to_split(each: Each) {
     long_lists(&mut |list| cut(list, &|count| [1, 2, count - 1, count].into_iter().filter(|_| count > 0).collect()));
 }
 
+fn split_all_case(room: usize, lengths_room: usize, list: List) -> Vec<u8> {
+    [&(room as u32).to_le_bytes()[..], &(lengths_room as u16).to_le_bytes(), &list.bytes()].concat()
+}
+
+/// How many bytes its output has: room for the chunks, and behind it two bytes for each length.
+pub fn chunks_room(input: &[u8]) -> usize {
+    u32_at(input, 0) as usize + 2 * usize::from(u16_at(input, 4))
+}
+
+/// Every list, with room and places that just hold all, or more; with one of them one short; and with none.
+pub fn to_split_all(each: Each) {
+    let mut cut = |list: List| {
+        let chunks = chunker::split(list.request_id, list.header, list.body, list.max_sysex).unwrap_or_default();
+        let (need, count) = (chunks.iter().map(Vec::len).sum::<usize>(), chunks.len());
+        let short = [(need.saturating_sub(1), count), (need, count.saturating_sub(1)), (0, count), (need, 0), (0, 0)];
+        for (room, lengths_room) in [(need, count), (need + 3, count + 2)].into_iter().chain(short) {
+            each(&split_all_case(room, lengths_room, list));
+        }
+    };
+    lists(&mut cut);
+    long_lists(&mut cut);
+}
+
 /// A limit: at a boundary, any between them, or any at all.
 pub fn any_limit(rng: &mut Rng) -> u32 {
     match rng.below(16) {
@@ -111,7 +157,7 @@ pub fn random_to_count(rng: &mut Rng) -> Vec<u8> {
     let first = first_chunk_property_capacity(max_sysex, header_len).unwrap_or(0);
     let chunks = if rng.once_in(64) { rng.below(40) } else { rng.below(4) };
     let body_len = if rng.once_in(2) { rng.around(first + chunks * later) } else { rng.below(120) };
-    let (header, body) = (random_header(rng, header_len), rng.bytes(body_len));
+    let (header, body) = (random_header(rng, header_len), random_body(rng, body_len));
     List { request_id: random_request_id(rng), max_sysex, header: &header, body: &body }.bytes()
 }
 
@@ -123,6 +169,17 @@ pub fn random_to_split(rng: &mut Rng) -> Vec<u8> {
     let chunk_num = if rng.once_in(8) { random_number(rng).into() } else { rng.below(chunks.len() + 2) };
     let need = chunk_num.checked_sub(1).and_then(|k| chunks.get(k)).map_or(9, Vec::len);
     with_random_room(rng, need, [&(chunk_num as u16).to_le_bytes()[..], &input].concat())
+}
+
+/// All chunks of a list, with room and places mostly around what they take, each by itself.
+pub fn random_to_split_all(rng: &mut Rng) -> Vec<u8> {
+    let input = random_to_count(rng);
+    let list = List::read(&input);
+    let chunks = chunker::split(list.request_id, list.header, list.body, list.max_sysex).unwrap_or_default();
+    let (need, count) = (chunks.iter().map(Vec::len).sum(), chunks.len());
+    let exact = rng.once_in(3);
+    let mut room = |need| if exact { need } else { random_room(rng, need) };
+    split_all_case(room(need), room(count), list)
 }
 
 pub fn random_limit(rng: &mut Rng) -> Vec<u8> {
@@ -151,6 +208,11 @@ pub fn chunk_count(input: &[u8], _: Vec<u8>) -> Outcome {
     Outcome::of(split(List::read(input)).map(|chunks| vec![chunks.len() as u64]))
 }
 
+/// By document 02; so too of the next two that end so.
+pub fn chunk_count_by_02(input: &[u8]) -> Asked<Vec<u64>> {
+    Ok(vec![beyond::cut(List::read(input))?.chunks as u64])
+}
+
 fn split(list: List) -> Result<Vec<Vec<u8>>, Refusal> {
     chunker::split(list.request_id, list.header, list.body, list.max_sysex).map_err(Refusal::from)
 }
@@ -164,4 +226,31 @@ pub fn split_chunk(input: &[u8], mut out: Vec<u8>) -> Outcome {
         copy_in(chunks.get(place).ok_or(out_of_range)?, &mut out)
     });
     Outcome { reply, out }
+}
+
+pub fn split_chunk_by_02(input: &[u8]) -> Asked<Vec<u64>> {
+    let chunk = beyond::cut_chunk(List::read(from(input, 4)), u16_at(input, 2).into(), room(input));
+    chunk.map(|n| vec![n as u64])
+}
+
+/// All that the original returns: the chunks one behind the other, and in the places behind their room the lengths. The last
+/// question is the port's: 3 where one of the two is too short.
+pub fn split_all(input: &[u8], mut out: Vec<u8>) -> Outcome {
+    let (room, places) = out.split_at_mut(u32_at(input, 0) as usize);
+    let reply = split(List::read(from(input, 6))).and_then(|chunks| {
+        let lengths: Vec<u8> = chunks.iter().flat_map(|chunk| (chunk.len() as u16).to_le_bytes()).collect();
+        let bytes = chunks.concat();
+        if bytes.len() > room.len() || lengths.len() > places.len() {
+            return Err(Refusal { number: 3, value: 0 });
+        }
+        copy_in(&lengths, places)?;
+        copy_in(&bytes, room)?;
+        Ok(vec![chunks.len() as u64, bytes.len() as u64])
+    });
+    Outcome { reply, out }
+}
+
+pub fn split_all_by_02(input: &[u8]) -> Asked<Vec<u64>> {
+    let all = beyond::cut_all(List::read(from(input, 6)), u32_at(input, 0) as usize, u16_at(input, 4).into());
+    all.map(|(chunks, bytes)| vec![chunks as u64, bytes as u64])
 }

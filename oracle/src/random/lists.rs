@@ -25,12 +25,26 @@ pub fn list(rng: &mut Rng, sizes: Sizes, request_id: u8) -> Vec<Vec<u8>> {
         0 => with_header_around_4096(rng, request_id),
         1..=3 => any(rng, request_id),
         4..=6 => cut(rng, request_id, 48, 1_000, 256),
+        7..=14 => with_late_count(rng, request_id),
         _ => small(rng, request_id),
     }
 }
 
 fn cut(rng: &mut Rng, request_id: u8, header_len: usize, body_len: usize, max_sysex: u32) -> Vec<Vec<u8>> {
-    split(request_id, &seven_bit(rng, header_len), &rng.fill(body_len), max_sysex).expect("a list that can be cut")
+    split(request_id, &seven_bit(rng, header_len), &body(rng, body_len), max_sysex).expect("a list that can be cut")
+}
+
+/// Bytes up to 7F, eight for each number drawn; once in 64 with one above, whose chunk is left out.
+fn body(rng: &mut Rng, n: usize) -> Vec<u8> {
+    let mut body = low(rng, n);
+    if n > 0 && rng.once_in(64) {
+        body[rng.below(n)] |= 0x80;
+    }
+    body
+}
+
+fn low(rng: &mut Rng, n: usize) -> Vec<u8> {
+    rng.fill(n).iter().map(|b| b & 0x7F).collect()
 }
 
 fn small(rng: &mut Rng, request_id: u8) -> Vec<Vec<u8>> {
@@ -38,6 +52,18 @@ fn small(rng: &mut Rng, request_id: u8) -> Vec<Vec<u8>> {
     let pieces = rng.pick(&[0, 0, 1, 1, 1, 2, 2, 3, 4]);
     let body_len = if rng.once_in(4) { rng.around(104 * pieces) } else { 104 * pieces + rng.below(40) };
     cut(rng, request_id, header_len, body_len, 128)
+}
+
+/// A small list of which one chunk alone tells the count.
+fn with_late_count(rng: &mut Rng, request_id: u8) -> Vec<Vec<u8>> {
+    let chunks = small(rng, request_id);
+    let teller = rng.below(chunks.len());
+    let told = |(k, raw_chunk): (usize, &Vec<u8>)| {
+        let mut chunk = PeChunk::decode(raw_chunk).expect("a chunk of a list");
+        chunk.num_chunks = if k == teller { chunk.num_chunks } else { 0 };
+        bytes(chunk)
+    };
+    chunks.iter().enumerate().map(told).collect()
 }
 
 /// Any limit, and any header that it takes.
@@ -67,7 +93,7 @@ fn in_large_pieces(rng: &mut Rng, request_id: u8) -> Vec<Vec<u8>> {
         header: if k == 0 { header.clone() } else { Vec::new() },
         num_chunks: lengths.len() as u16,
         chunk_num: k as u16 + 1,
-        property: rng.fill(*len),
+        property: low(rng, *len),
     };
     lengths.iter().enumerate().map(chunk).map(bytes).collect()
 }
@@ -75,19 +101,21 @@ fn in_large_pieces(rng: &mut Rng, request_id: u8) -> Vec<Vec<u8>> {
 /// One chunk whose header is around 4,096 bytes, which no list that is cut has, or longer.
 fn with_header_around_4096(rng: &mut Rng, request_id: u8) -> Vec<Vec<u8>> {
     let header_len = if rng.once_in(4) { 4_000 + rng.below(12_384) } else { rng.around(4_096) };
-    let (header, property) = (seven_bit(rng, header_len), rng.fill(5));
+    let (header, property) = (seven_bit(rng, header_len), low(rng, 5));
     vec![bytes(PeChunk { request_id, header, num_chunks: 1, chunk_num: 1, property })]
 }
 
-/// Chunks of up to two bytes, some 2,048 of them, with a count at which they are whole, or one that is not yet known.
+/// Chunks of up to two bytes, some 2,048 of them. All of them tell the count at which they are whole, or none, or one.
 pub fn many(rng: &mut Rng, request_id: u8) -> Vec<Vec<u8>> {
-    let (count, known) = (2_046 + rng.below(6), rng.once_in(2));
+    let count = 2_046 + rng.below(6);
+    let one = 1 + rng.below(count);
+    let tellers = rng.pick(&[(1, count), (0, 0), (one, one)]);
     let chunk = |k: usize| PeChunk {
         request_id,
         header: Vec::new(),
-        num_chunks: if known { count as u16 } else { 0 },
+        num_chunks: if (tellers.0..=tellers.1).contains(&k) { count as u16 } else { 0 },
         chunk_num: k as u16,
-        property: rng.fill(k % 3),
+        property: low(rng, k % 3),
     };
     (1..=count).map(chunk).map(bytes).collect()
 }
@@ -102,13 +130,13 @@ pub fn wrong(rng: &mut Rng, raw_chunk: &[u8]) -> Vec<u8> {
     let Ok(mut chunk) = PeChunk::decode(&raw_chunk) else { return raw_chunk };
     match rng.below(16) {
         0..=1 => chunk.num_chunks = 0,
-        2..=3 => chunk.num_chunks = (rng.around(chunk.num_chunks.into()) % 16_384) as u16,
-        4 => chunk.chunk_num = chunk.num_chunks + 1 + rng.below(3) as u16,
-        5 => chunk.chunk_num = 16_383 - rng.below(2) as u16,
+        2..=3 => chunk.num_chunks = other_count(rng, &chunk),
+        4 => beyond_count(rng, &mut chunk),
+        5 => (chunk.chunk_num, chunk.num_chunks) = (16_383 - rng.below(2) as u16, 0),
         6 => chunk.chunk_num = 0,
         7 => chunk.chunk_num = 1,
         8 => other_header(rng, &mut chunk),
-        9 => chunk.property = rng.fill(chunk.property.len() / 2),
+        9 => chunk.property = body(rng, chunk.property.len() / 2),
         _ => {
             chunks::damage(rng, &mut raw_chunk);
             return raw_chunk;
@@ -118,6 +146,20 @@ pub fn wrong(rng: &mut Rng, raw_chunk: &[u8]) -> Vec<u8> {
         chunk.header.clear();
     }
     bytes(chunk)
+}
+
+/// A count within one of what it was; where none was told, one around the chunk's number.
+fn other_count(rng: &mut Rng, chunk: &PeChunk) -> u16 {
+    let near = if chunk.num_chunks == 0 { chunk.chunk_num } else { chunk.num_chunks };
+    (rng.around(near.into()) % 16_384) as u16
+}
+
+/// A number above the count, or next to it; every second time with no count beside it.
+fn beyond_count(rng: &mut Rng, chunk: &mut PeChunk) {
+    chunk.chunk_num = chunk.num_chunks + rng.below(4) as u16;
+    if rng.once_in(2) {
+        chunk.num_chunks = 0;
+    }
 }
 
 /// The first chunk with another header: a byte changed, or one more or less.

@@ -1,7 +1,9 @@
 //! Compares the port with the original: `compare SEED CASES RUNS`. All inputs of a function where they are few; else all that are
 //! short or at the boundaries, and then CASES random ones; then RUNS runs of calls on a table. What the original lacks is
-//! compared with a reading of document 02. It stops at the first difference. It fails too where an export is not compared, or
-//! never gave a refusal that it can give. `compare exports` prints the names of the exports that are compared.
+//! compared with a reading of document 02; so is what K3 of that document turns down and the original does not, which is left
+//! out of the runs. It stops at the first difference. It fails too where an export is not compared, or never gave a refusal that
+//! it can give, or where nothing was left out for one of K3's questions. `compare exports` prints the names of the exports that
+//! are compared.
 mod port;
 mod runs;
 mod state;
@@ -38,14 +40,20 @@ fn check_exports() -> Result<(), String> {
 
 /// Puts one case to both sides.
 fn compare(case: &Case, export: Export, summary: &mut Summary) -> Result<(), String> {
-    let expected = original::answer(case, case.lent(port::fill));
+    let (expected, left_out) = original::expected(case, case.lent(port::fill))?;
     let found = port::answer(case, case.lent(port::fill));
     if found.as_ref() != Ok(&expected) {
         let found = found.map_or_else(|wrong| wrong, |found| found.to_string());
-        let other = if case.op.row().in_original { "the original:" } else { "document 02: " };
+        let by_original = case.op.row().in_original && left_out.is_none();
+        let other = if by_original { "the original:" } else { "document 02: " };
         return Err(format!("{case}\n  {other} {expected}\n  the port:     {found}"));
     }
+    if case.op == Op::ChunkDecode && expected.reply.is_ok() {
+        port::round_trip(&case.input).map_err(|wrong| format!("{case}\n  {wrong}"))?;
+        summary.round_trips += 1;
+    }
     summary.count(export, expected.answer(case.op));
+    left_out.into_iter().for_each(|beyond| summary.leave_out(export, beyond));
     summary.bytes += expected.out.len() as u64;
     Ok(())
 }
@@ -66,18 +74,21 @@ fn compare_all(op: Op, export: Export, seed: u64, cases: u64, summary: &mut Summ
 
 fn compare_functions(seed: u64, cases: u64, summary: &mut Summary) -> Result<(), String> {
     println!("The port and the original, seed {seed}, {cases} random cases for each function but those with all inputs");
-    println!("How often each export was called, and each answer came, refusals by their numbers:");
+    println!("How often each export was called, and each answer came, refusals by their numbers. Left out are calls to which");
+    println!("the original gives another answer than document 02 (K3): they are compared with a reading of that document.");
     for (op, export) in Op::ALL {
         compare_all(op, export, seed, cases, summary)?;
         let all = if op.row().all_compared { ", all inputs" } else { "" };
         let other = if op.row().in_original { "" } else { ", beside a reading of document 02, not the original" };
         println!("{}{all}{other}", summary.line(export));
     }
+    println!("{} chunks that were read, each written again as it was", summary.round_trips);
     Ok(())
 }
 
 fn compare_runs(seed: u64, runs: u64, summary: &mut Summary) -> Result<(), String> {
-    println!("{runs} runs of sixty calls, and more with lists of some 2,048 chunks, on tables of 0, 1, 2, 8 and 16 peers");
+    println!("{runs} runs of sixty calls, and more with lists of some 2,048 chunks, on tables of 0, 1, 2, 8 and 16 peers.");
+    println!("Left out, and made on neither side, are calls with a chunk that K3 turns down.");
     runs::compare(seed, runs, summary)?;
     What::exports().for_each(|export| println!("{}", summary.line(export)));
     Ok(())
@@ -94,6 +105,18 @@ fn check_refusals(runs: u64, summary: &Summary) -> Result<(), String> {
     Ok(())
 }
 
+/// Was something left out for each of K3's questions, of each export that has it? Of fewer runs than reach it all it is only said.
+fn check_left_out(runs: u64, summary: &Summary) -> Result<(), String> {
+    let of_functions = summary.never_left_out(Op::ALL.iter().map(|(_, export)| *export));
+    let of_runs = summary.never_left_out(What::exports());
+    match of_functions.or(of_runs.clone().filter(|_| runs >= RUNS_FOR_ALL)) {
+        Some(missing) => return Err(format!("NOTHING LEFT OUT: {missing}")),
+        None if of_runs.is_some() => println!("Too few runs to leave out everything. RUNS={RUNS_FOR_ALL} does."),
+        None => println!("For each of K3's questions, calls were left out of each export that has it."),
+    }
+    Ok(())
+}
+
 fn number(word: &str, name: &str) -> Result<u64, String> {
     word.parse().map_err(|e| format!("{name} is {word}: {e}"))
 }
@@ -104,7 +127,8 @@ fn compare_both(seed: u64, cases: u64, runs: u64) -> Result<(), String> {
     compare_functions(seed, cases, &mut summary).map_err(differs)?;
     compare_runs(seed, runs, &mut summary).map_err(differs)?;
     println!("{}, no difference", summary.totals(&compared()));
-    check_refusals(runs, &summary)
+    check_refusals(runs, &summary)?;
+    check_left_out(runs, &summary)
 }
 
 fn run(args: &[&str]) -> Result<(), String> {

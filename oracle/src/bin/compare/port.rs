@@ -53,6 +53,7 @@ pub fn answer(case: &Case, mut lent: Vec<u8>) -> Found<Outcome> {
         Op::Position => position(&long_words(from(input, 2)), u16_at(input, 0)),
         Op::SyxList => return syx_list(u16_at(input, 0).into(), from(input, 4), long_words(out)),
         Op::HeaderFind => header_find(header_and_rest(input, 0)),
+        Op::Split => split(List::read(from(input, 6)), out.split_at_mut(u32_at(input, 0) as usize)),
     };
     Ok(Outcome { reply: reply?, out: lent })
 }
@@ -152,6 +153,22 @@ fn chunk_decode(data: &[u8]) -> Found<Outcome> {
     Ok(Outcome { reply: reply(answer, values)?, out })
 }
 
+/// Is a chunk that the port reads written again as it was, by its bytes and by the fields that were read?
+pub fn round_trip(data: &[u8]) -> Found<()> {
+    let exports::ChunkAnswer { refusal: _, value: _, request_id, header_len, num_chunks, chunk_num, property_at, property_len } =
+        exports::codec_decode_fields(data);
+    let (header, property) = (part(data, 3, header_len)?, part(data, property_at, property_len)?);
+    let chunk = Chunk { request_id, num_chunks, chunk_num, header, property };
+    let same = |write: &dyn Fn(&mut [u8]) -> Found<Reply>| {
+        let mut out = vec![0xEE; data.len()];
+        Found::Ok(write(&mut out)? == Ok(vec![data.len() as u64]) && out == data)
+    };
+    if same(&|out| count(exports::codec_rewrite(data, out)))? && same(&|out| chunk_encode(chunk, out))? {
+        return Ok(());
+    }
+    Err("it is read, and not written again as it was".into())
+}
+
 fn chunk_encode(chunk: Chunk, out: &mut [u8]) -> Found<Reply> {
     let Chunk { request_id, num_chunks, chunk_num, header, property } = chunk;
     count(exports::codec_encode_chunk(request_id, header, num_chunks, chunk_num, property, out))
@@ -165,6 +182,15 @@ fn chunk_count(list: List) -> Found<Reply> {
 fn split_chunk(list: List, chunk_num: u16, out: &mut [u8]) -> Found<Reply> {
     let List { request_id, max_sysex, header, body } = list;
     count(exports::midici_pe_split_chunk(request_id, header, body, max_sysex, chunk_num, out))
+}
+
+/// The chunks go into the room, their lengths into the places behind it, two bytes each.
+fn split(list: List, (room, places): (&mut [u8], &mut [u8])) -> Found<Reply> {
+    let List { request_id, max_sysex, header, body } = list;
+    let mut lengths: Vec<u16> = (0..places.len() / 2).map(|k| u16_at(places, 2 * k)).collect();
+    let answer = exports::midici_pe_split(request_id, header, body, max_sysex, room, &mut lengths);
+    places.chunks_exact_mut(2).zip(lengths).for_each(|(place, length)| place.copy_from_slice(&length.to_le_bytes()));
+    reply(answer, |exports::CutAnswer { refusal: _, chunks, bytes }| vec![*chunks, *bytes])
 }
 
 fn whole_encode(whole: Whole, out: &mut [u8]) -> Found<Reply> {

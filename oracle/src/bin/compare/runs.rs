@@ -58,8 +58,13 @@ impl Sides {
 }
 
 impl Pair<'_> {
-    /// Puts a call to both sides; before that to the port alone with a damaged slot, where the call says so.
+    /// Puts a call to both sides; before that to the port alone with a damaged slot, where the call says so. A call with a chunk
+    /// that K3 turns down is put to neither side.
     fn call(&mut self, call: &Call, summary: &mut Summary) -> Result<(), String> {
+        if let Some(beyond) = original::table::left_out(&self.original, call) {
+            summary.leave_out(call.what.row().export, beyond);
+            return Ok(());
+        }
         if !call.damage.is_empty() {
             self.call_damaged(call, summary).map_err(|difference| format!("with the damage, {difference}"))?;
         }

@@ -1,4 +1,5 @@
-//! What was compared: how often each export gave each answer, and how many bytes.
+//! What was compared: how often each export gave each answer, what was left out, and how many bytes.
+use oracle::beyond::Beyond;
 use oracle::export::{Export, NONE_OF_HUB, NUMBERS};
 use oracle::outcome::Answer;
 use std::collections::{BTreeMap, BTreeSet};
@@ -8,7 +9,10 @@ type Answers = BTreeMap<Answer, u64>;
 #[derive(Default)]
 pub struct Summary {
     pub bytes: u64,
+    /// How many chunks that were read were written again.
+    pub round_trips: u64,
     answers: BTreeMap<&'static str, Answers>,
+    left_out: BTreeMap<(&'static str, Beyond), u64>,
 }
 
 fn calls(answers: &Answers) -> u64 {
@@ -36,6 +40,19 @@ impl Summary {
         *self.answers.entry(export.name).or_default().entry(answer).or_default() += 1;
     }
 
+    /// A call that the original would answer otherwise.
+    pub fn leave_out(&mut self, export: Export, beyond: Beyond) {
+        *self.left_out.entry((export.name, beyond)).or_default() += 1;
+    }
+
+    fn left_out(&self, export: Export) -> String {
+        let told = |beyond: &Beyond| format!("{beyond}: {}", self.left_out.get(&(export.name, *beyond)).unwrap_or(&0));
+        match export.beyond {
+            [] => String::new(),
+            all => format!("; left out: {}", all.iter().map(told).collect::<Vec<_>>().join(", ")),
+        }
+    }
+
     fn of(&self, export: Export) -> Answers {
         self.answers.get(export.name).cloned().unwrap_or_default()
     }
@@ -52,7 +69,7 @@ impl Summary {
     /// How often an export gave each answer.
     pub fn line(&self, export: Export) -> String {
         let answers = self.of(export);
-        format!("{:35} {:>9}   {}", export.name, calls(&answers), told(&answers))
+        format!("{:35} {:>9}   {}{}", export.name, calls(&answers), told(&answers), self.left_out(export))
     }
 
     /// How often the exports of hub gave each answer, and the others; and how much was compared in all.
@@ -88,5 +105,13 @@ impl Summary {
             (!missing.is_empty()).then(|| format!("hub did not give {missing:?}"))
         };
         exports.iter().find_map(one).or_else(of_hub)
+    }
+
+    /// Which of K3's questions turned nothing down that an export was handed, or was to be handed in a run?
+    pub fn never_left_out(&self, mut exports: impl Iterator<Item = Export>) -> Option<String> {
+        exports.find_map(|Export { name, beyond, .. }| {
+            let missing = beyond.iter().find(|beyond| !self.left_out.contains_key(&(name, **beyond)))?;
+            Some(format!("no call of {name} for {missing}"))
+        })
     }
 }

@@ -2,6 +2,7 @@
 //! so: peer (4) and time (8) in front of a chunk that is fed; peer and request id; peer; time; nothing.
 use midici_core::muid::Muid;
 use midici_pe::reassembler::{ReassembleEvent, Reassembler};
+use oracle::original::table::left_out_chunk;
 use oracle::outcome::{Answer, Outcome};
 use oracle::random::Rng;
 use std::collections::BTreeSet;
@@ -58,6 +59,22 @@ pub fn answers(calls: &[Call]) -> Vec<Outcome> {
     calls.iter().map(|call| answer(&mut table, call)).collect()
 }
 
+/// The calls but those that feed a chunk which K3 turns down: these are not made.
+fn without_left_out(calls: Vec<Call>) -> Vec<Call> {
+    let mut table = Reassembler::new(MAX_PEERS);
+    let is_made = |call: &Call| {
+        let left_out = match call {
+            Call::Feed { peer, raw_chunk, .. } => left_out_chunk(&table, muid(*peer), raw_chunk).is_some(),
+            _ => false,
+        };
+        if !left_out {
+            answer(&mut table, call);
+        }
+        !left_out
+    };
+    calls.into_iter().filter(is_made).collect()
+}
+
 fn answer(table: &mut Reassembler, call: &Call) -> Outcome {
     Outcome::of(Ok(match call {
         Call::New => {
@@ -110,10 +127,10 @@ fn feed(peer: u32, now_ms: u64, raw_chunk: Vec<u8>) -> Call {
 }
 
 /// Document 01's: "Last time 1,000: poll at 3,999 nothing, at 4,000 a timeout, at 500 nothing. Frames 1 of 2, 5 of 2, 2 of 2: body
-/// is 1, 2, 5." Then a header of 4,097 bytes, which is 4.
+/// is 1, 2, 5." The second of these is left out. Then a header of 4,097 bytes, which is 4.
 pub fn examples() -> Vec<Call> {
     let opened = || feed(9, 1_000, chunk(5, &[], 2, 2, &[2]));
-    vec![
+    without_left_out(vec![
         Call::New,
         opened(),
         Call::Poll { now_ms: 3_999 },
@@ -125,12 +142,12 @@ pub fn examples() -> Vec<Call> {
         feed(9, 1_000, chunk(5, &[], 2, 5, &[5])),
         feed(9, 1_000, chunk(5, &[], 2, 2, &[2])),
         feed(9, 1_000, chunk(5, &[0x20; 4_097], 2, 1, &[])),
-    ]
+    ])
 }
 
 /// Random runs of few peers and ids, so that lists end, clash and find no room.
 pub fn runs() -> Vec<Call> {
-    (0..RUNS).flat_map(|seed| run(&mut Rng::new(seed as u64))).collect()
+    without_left_out((0..RUNS).flat_map(|seed| run(&mut Rng::new(seed as u64))).collect())
 }
 
 fn run(rng: &mut Rng) -> Vec<Call> {
@@ -161,7 +178,7 @@ fn fed_chunk(rng: &mut Rng, request_id: u8) -> Vec<u8> {
     let num_chunks = [2, 2, 2, 2, 3, 0][rng.below(6)];
     let chunk_num = [1, 1, 1, 2, 2, 2, 3, 0, 16_383][rng.below(9)];
     let header: &[u8] = if chunk_num == 1 { [&b"{}"[..], b"{}", b"{}", b"{ }"][rng.below(4)] } else { b"" };
-    let property: Vec<u8> = (0..rng.below(4)).map(|_| rng.below(256) as u8).collect();
+    let property: Vec<u8> = (0..rng.below(4)).map(|_| rng.below(128) as u8).collect();
     let mut bytes = chunk(request_id, header, num_chunks, chunk_num, &property);
     match rng.below(24) {
         0 => bytes.truncate(bytes.len() - 1),
