@@ -149,7 +149,8 @@ pub(crate) fn put_piece(
     at: usize,
 ) -> usize
     requires { ⌜ Cut «request_id» (now header) (now body) «max_sysex» ⌝ }
-    requires { ⌜ (length (bodyPieces «max_sysex» (length (now header)) (now body)) ≡ «num_chunks») × (1 ≤ «chunk_num») × («chunk_num» ≤ «num_chunks») ⌝ }
+    requires { ⌜ (length (bodyPieces «max_sysex» (length (now header)) (now body)) ≡ «num_chunks»)
+        × (1 ≤ «chunk_num») × («chunk_num» ≤ «num_chunks») ⌝ }
     ensures { λ r. ⌜ (r ≡ chunkLen (chunkAt «request_id» (now (header .entry)) (now (body .entry)) «max_sysex» «chunk_num»))
         × (now (out .exit) ≡ putFit (now (out .entry)) at
         (chunkBytes (chunkAt «request_id» (now (header .entry)) (now (body .entry)) «max_sysex» «chunk_num»))) ⌝ }

@@ -32,7 +32,8 @@ fn put_all(
     requires { ⌜ (length (bodyPieces «max_sysex» (length (now header)) (now body)) ≡ «num_chunks»)
         × (length (joined (allChunks «request_id» (now header) (now body) «max_sysex»)) ≤ length (now out))
         × («num_chunks» ≤ length (now lengths)) ⌝ }
-    ensures { λ _. ⌜ (now (out .exit) ≡ put (now (out .entry)) 0 (joined (allChunks «request_id» (now (header .entry)) (now (body .entry)) «max_sysex»)))
+    ensures { λ _. ⌜ (now (out .exit) ≡ put (now (out .entry)) 0
+        (joined (allChunks «request_id» (now (header .entry)) (now (body .entry)) «max_sysex»)))
         × (now (lengths .exit) ≡ put (now (lengths .entry)) 0
         (map length (allChunks «request_id» (now (header .entry)) (now (body .entry)) «max_sysex»))) ⌝ }
 {

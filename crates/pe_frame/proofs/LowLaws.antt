@@ -5,15 +5,14 @@ use mathlib.Core.Bool.{Bool, true, false, cond, _&&_, and-true, and-assoc}
 use mathlib.Core.List.{List, [], _∷_, _++_}
 use mathlib.Core.Path.{_≡_, refl, sym, ap, _∙_}
 use native.Mathlib.Omega.{arith}
-use borrow.Author.Tests.{le-leb, lt-leb, leb-true, leb-false}
-use lib.Bits.{bitOr, or-lt}
+use lib.Bits.{bitOr}
 use lib.Dec.{leb}
 use lib.ListN.{length, getD, set, take, drop, take-append-drop}
 use lib.Seq.{drop-drop, take-add, take-take}
 use Rattle.seven_bit.specs.Parts.{part}
 use Rattle.seven_bit.specs.SevenBit.{isSevenBit}
 use Rattle.seven_bit.proofs.PartLaws.{part-none, part-next, rest}
-use Rattle.seven_bit.proofs.SevenBitLaws.{seven-bit-take, seven-bit-drop, seven-bit-behind, or-left, or-right}
+use Rattle.seven_bit.proofs.SevenBitLaws.{seven-bit-take, seven-bit-drop, seven-bit-behind, gather, gather-end}
 
 -- a part and what follows it
 both-parts : (xs ys : List ℕ) → isSevenBit (xs ++ ys) ≡ (isSevenBit xs && isSevenBit ys)
@@ -47,14 +46,13 @@ cover s at b h = go (isSevenBit s) refl
 
 -- one byte's bits more
 or-both : (a b : ℕ) → leb (bitOr a b) 127 ≡ (leb a 127 && leb b 127)
-or-both a b = go (leb a 127) (leb b 127) refl refl
+unfolding isSevenBit
+or-both a b = sym (gather-end (bitOr a b) [] refl) ∙ sym (gather a b []) ∙ go (leb a 127) (leb b 127)
   where
-    go : (x y : Bool) → leb a 127 ≡ x → leb b 127 ≡ y → leb (bitOr a b) 127 ≡ (x && y)
-    go true true e f =
-        let l : bitOr a b < 128 = or-lt 7 a b (omega (arith, leb-true a 127 e)) (omega (arith, leb-true b 127 f)) in
-        le-leb (bitOr a b) 127 (omega arith)
-    go true false e f = let h : 127 < b = leb-false b 127 f in lt-leb (bitOr a b) 127 (omega (arith, or-right a b))
-    go false y e f = let h : 127 < a = leb-false a 127 e in lt-leb (bitOr a b) 127 (omega (arith, or-left a b))
+    go : (x y : Bool) → cond x (cond y true false) false ≡ (x && y)
+    go true true = refl
+    go true false = refl
+    go false y = refl
 
 pub gather-at : (bits : List ℕ) (i b : ℕ) → i < length bits → isSevenBit (set bits i (bitOr (getD bits i 0) b)) ≡ (isSevenBit bits && leb b 127)
 unfolding isSevenBit
@@ -75,20 +73,13 @@ gather-at (x ∷ xs) (suc i) b h = go (leb x 127) (gather-at xs i b (omega arith
     go false e = refl
 
 -- and the part up to it
-one-byte : (x : ℕ) (t : List ℕ) → t ≡ [] → isSevenBit (x ∷ t) ≡ leb x 127
-unfolding isSevenBit
-one-byte x t e = rw e (go (leb x 127))
-  where
-    go : (b : Bool) → cond b true false ≡ b
-    go true = refl
-    go false = refl
-
 pub gather-part : (at i : ℕ) (s : List ℕ) → at + i < length s → isSevenBit (part at (i + 1) s) ≡ (isSevenBit (part at i s) && leb (getD s (at + i) 0) 127)
+unfolding isSevenBit
 gather-part at i s h =
     next-part i 1 (drop at s)
     ∙ ap (λ (t : List ℕ). isSevenBit (part at i s) && isSevenBit (take 1 t)) (drop-drop i at s)
     ∙ ap (λ (q : Bool). isSevenBit (part at i s) && q)
-    (ap isSevenBit (part-next (at + i) 0 s 0 h) ∙ one-byte (getD s (at + i) 0) (part (at + i + 1) 0 s) (part-none (at + i + 1) s))
+    (ap isSevenBit (part-next (at + i) 0 s 0 h) ∙ gather-end (getD s (at + i) 0) (part (at + i + 1) 0 s) (part-none (at + i + 1) s))
 
 -- the loops: bits that hold those of a part hold those of a longer one
 module _ (bits₀ s : List ℕ) where

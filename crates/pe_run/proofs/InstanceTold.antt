@@ -101,8 +101,8 @@ unfolding arrives findsRecord hasFour judged judge headerFits headerAgrees sameH
 takes-8 = refl
 
 takes-9 : arrives (fullSize 2) open-two 9 (other 6 1) 200 ≡ record { model = open-all; answer = refused 8 0 }
-unfolding arrives findsRecord hasFour judged judge headerFits headerAgrees sameHeader eqList withinCount heldWithin countAgrees newHeader newCount noneKnown held
-    bodyLen afterChunk passed isWhole allHeld eventOf
+unfolding arrives findsRecord hasFour judged judge headerFits headerAgrees sameHeader eqList withinCount heldWithin countAgrees newHeader newCount noneKnown
+    held bodyLen afterChunk passed isWhole allHeld eventOf
 takes-9 = refl
 
 takes-stray : arrives (fullSize 2) open-all 9 stray 250 ≡ record { model = open-later; answer = refused 8 0 }

@@ -18,7 +18,8 @@ use Rattle.pe_run.specs.Lists.{keep}
 use Rattle.pe_run.specs.Model.{Open, Entry, Model, isAt, isOf, isLate, find, touchedAt, judged, entryOf, without, acted}
 use Rattle.pe_run.specs.Model.{Act, arrive, cancel, drop, poll, nothing}
 use Rattle.pe_run.specs.Calls.{Call, feed, feed-message, cancel as cancel-call, drop-peer, poll as poll-call, memory-stats, reserved-bytes, open-list}
-use Rattle.pe_run.specs.Calls.{Arrival, arrival, arriving, hasOutputs, hasPlaces, fedArrival, messageArrival, arrivalAct, grantedOf, actOf, modelFrom, modelAfter}
+use Rattle.pe_run.specs.Calls.{Arrival, arrival, arriving, hasOutputs, hasPlaces, fedArrival, messageArrival}
+use Rattle.pe_run.specs.Calls.{arrivalAct, grantedOf, actOf, modelFrom, modelAfter}
 use Rattle.pe_run.proofs.ListLaws.{All, all-append}
 use Rattle.pe_run.proofs.ModelLaws.{arrives-keeps}
 

@@ -9,8 +9,8 @@ use lib.Dec.{leb, ltb, eqb}
 use lib.ListN.{length}
 use Rattle.seven_bit.proofs.ReplyLaws.{and-told}
 use Rattle.pe_frame.specs.Chunk.{Chunk, withinCount}
-use Rattle.pe_slot.specs.Slot.{Piece, Slot, Verdict, emptySlot, heldWithin, held, bodyLen, headerFits, headerAgrees, newHeader, countAgrees, newCount, afterChunk}
-use Rattle.pe_slot.specs.Slot.{allWithin, judge, slotAfter}
+use Rattle.pe_slot.specs.Slot.{Piece, Slot, Verdict, emptySlot, heldWithin, held, bodyLen, headerFits, headerAgrees}
+use Rattle.pe_slot.specs.Slot.{newHeader, countAgrees, newCount, afterChunk, allWithin, judge, slotAfter}
 use Rattle.pe_slot.proofs.JudgeLaws.{pieceBy, countBy, headerBy}
 
 -- one piece more

@@ -57,7 +57,8 @@ returns-3 c = rw (le-leb _ _ (c .before .before .if1 .left), le-leb _ _ (c .befo
 returns-4 : tie.Need-returns-4
 unfolding putChunk
 returns-4 c =
-    rw (le-leb _ _ (c .before .before .before .if1 .left), le-leb _ _ (c .before .before .if2 .left), le-leb _ _ (c .before .if3 .left), lt-leb _ _ (c .if4 .taken))
+    let d = c .before in
+    rw (le-leb _ _ (d .before .before .if1 .left), le-leb _ _ (d .before .if2 .left), le-leb _ _ (d .if3 .left), lt-leb _ _ (c .if4 .taken))
 
 returns-5 : tie.Need-returns-5
 returns-5 c = sym (short (c .before) (omega (arith, c .if5 .taken)))
