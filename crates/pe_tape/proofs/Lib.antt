@@ -1,0 +1,12 @@
+pub mod NumberLaws
+pub mod OperandLaws
+pub mod ReadLaws
+pub mod LineLaws
+pub mod CallLaws
+pub mod PlayLaws
+pub mod StepLaws
+pub mod WritingLaws
+pub mod ReplayLaws
+pub mod WriteLaws
+pub mod RunLaws
+pub mod Examples

@@ -1,0 +1,9 @@
+pub mod Number
+pub mod Command
+pub mod Tape
+pub mod Line
+pub mod Play
+pub mod Replay
+pub mod Runs
+pub mod Told
+pub mod Steps
