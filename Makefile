@@ -10,8 +10,12 @@ export SEED CASES RUNS SECONDS PREFIX DESTDIR CC CXX CFLAGS LDFLAGS AR
 
 LIBRARY = target/lib/libmidici_pe.a
 OBJECTS = target/lib/hub.o target/lib/hub_message.o
-LIBRARY_CRATES := $(shell sed -n 's/^hub_message:/hub_message/p' crates.txt)
-LIBRARY_SOURCES := $(shell find $(LIBRARY_CRATES:%=crates/%) -type d -name must-fail -prune -o -print)
+TAPE = target/bin/tape
+
+# The files of a crate and of those that it uses, but for the kit's.
+sources_of = $(shell find $(wildcard $(patsubst %,crates/%,$(shell sed -n 's/^$1:/$1/p' crates.txt))) -type d -name must-fail -prune -o -print)
+LIBRARY_SOURCES := $(call sources_of,hub_message)
+TAPE_SOURCES := $(call sources_of,tape)
 
 STRICT = -Wall -Wextra -Wpedantic -Werror -Iinclude -Ic
 C99 = $(CC) -std=c99 -O2 $(STRICT) $(CFLAGS)
@@ -30,7 +34,8 @@ edits:
 	@.ci/edits
 
 examples:
-	@.ci/examples
+	@.ci/program examples
+	@target/bin/examples
 
 compare:
 	@.ci/values "the comparison" SEED CASES RUNS
@@ -55,6 +60,12 @@ $(OBJECTS): target/lib/%.o: $(LIBRARY_SOURCES) crates.txt
 $(LIBRARY): $(OBJECTS) include/midici_pe.h
 	@.ci/archive $@ $(OBJECTS)
 	@echo "Made: $@"
+
+tape: $(TAPE)
+	@echo "Made: $(TAPE). It plays a recorded tape: $(TAPE) <recorded.tape"
+
+$(TAPE): $(TAPE_SOURCES) crates.txt
+	@.ci/program tape
 
 install: $(LIBRARY)
 	@.ci/install
@@ -84,13 +95,14 @@ test-c:
 	@c/at-hand Cannot-run "the C tests"
 	@$(MAKE) -s tested-c
 
-tested-c: target/c/readme target/c/exports target/c/week target/c/bodies target/c/answers
+tested-c: target/c/readme target/c/exports target/c/week target/c/bodies target/c/answers $(TAPE)
 	@c/test/header
 	@target/c/exports $(SEED)
 	@target/c/week >target/c/week.log || { cat target/c/week.log; exit 1; }
 	@echo "The demo ends as it should."
 	@c/test/syx/run
 	@c/test/json/run "$(SEED)" 20000 3
+	@c/test/tape/run "$(SEED)"
 	@if c/test/sanitizers; then $(MAKE) -s sanitized-c; fi
 	@c/sizes >target/c/sizes.log || { cat target/c/sizes.log; exit 1; }
 	@echo "No call takes more stack than the header says, and memset is all that has to be supplied."
@@ -131,6 +143,9 @@ target/c/bodies: c/test/syx/bodies.c include/midici_pe.h $(LIBRARY) target/c/com
 target/c/answers: c/test/json/answers.c include/midici_pe.h $(LIBRARY) target/c/compiler
 	@$(C99) c/test/json/answers.c $(LIBRARY) $(LDFLAGS) -o $@
 
+target/c/tape_calls: bench/tape_calls.c include/midici_pe.h $(LIBRARY) target/c/compiler
+	@$(C99) bench/tape_calls.c $(LIBRARY) $(LDFLAGS) -o $@
+
 target/c/readme: README.md include/midici_pe.h $(LIBRARY) target/c/compiler
 	@sed -n '/^```c$$/,/^```$$/{/^```/!p}' README.md >target/c/readme.c
 	@$(C99) target/c/readme.c $(LIBRARY) $(LDFLAGS) -o $@
@@ -139,4 +154,4 @@ always:
 
 # Two targets at once (make -j) are made one after the other: both may run rt, which works in target/.
 .NOTPARALLEL:
-.PHONY: help test edits examples compare bench vectors lib install uninstall clean sizes readme run test-c tested-c sanitized-c fuzz always
+.PHONY: help test edits examples compare bench vectors lib tape install uninstall clean sizes readme run test-c tested-c sanitized-c fuzz always

@@ -44,7 +44,7 @@
 
 #define MIDICI_PE_VERSION_MAJOR 0
 #define MIDICI_PE_VERSION_MINOR 5
-#define MIDICI_PE_VERSION_PATCH 0
+#define MIDICI_PE_VERSION_PATCH 1
 
 /* More stack than any call takes (make sizes measures each). */
 #define MIDICI_PE_STACK_BYTES 8192
@@ -84,7 +84,11 @@ enum midici_pe_refusal {
 
     MIDICI_PE_JSON_HEADER_TOO_LONG = 33,   /* a header that is to be read has more than 4,096 bytes */
     MIDICI_PE_JSON_NOT_FLAT_OBJECT = 34,   /* it is no flat JSON object of the kind that is read (see Headers) */
-    MIDICI_PE_JSON_NAME_TWICE = 35         /* a name stands in it twice */
+    MIDICI_PE_JSON_NAME_TWICE = 35,        /* a name stands in it twice */
+
+    /* No call of this header answers these: the program tape prints them. */
+    MIDICI_PE_TAPE_UNKNOWN_COMMAND = 36,   /* a tape has a byte that no command begins with */
+    MIDICI_PE_TAPE_CUT_OFF = 37            /* a tape ends inside a command */
 };
 
 /* What most calls answer. `value` is the kind of message with refusal 24, else 0. What `count` counts is said at each call;

@@ -131,6 +131,7 @@ refusals = print_numbers('pe_wire/src/error.rt', 'PeError', 'MIDICI_PE_')
 refusals += print_numbers('midici_core/src/error.rt', 'CiError', 'MIDICI_PE_CI_')
 refusals += print_numbers('syx/src/lib.rt', 'SyxError', 'MIDICI_PE_SYX_')
 refusals += print_numbers('pe_header/src/lib.rt', 'JsonError', 'MIDICI_PE_JSON_')
+refusals += print_numbers('pe_tape/src/error.rt', 'TapeError', 'MIDICI_PE_TAPE_')
 if enumerators('midici_pe_refusal') != refusals:
     wrong(f'{HEADER.name} has other refusals than the source')
 if enumerators('midici_pe_kind') != print_numbers('hub/src/header.rt', 'Kind', 'MIDICI_PE_'):
