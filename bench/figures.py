@@ -11,7 +11,7 @@ SIDES = ["port", "rust", "copies"]
 
 class Row:
     """Of each side: nanoseconds of one operation, the median and the quickest turn; the port's time by it; instructions.
-    Each process has a line of them."""
+    Each process has a line of them. Of a tape the sides are the program, the calls from C, and these with their lines."""
 
     def __init__(self, table, name, lines):
         self.table, self.name = table, name
@@ -27,8 +27,8 @@ class Row:
     def ratio(self):
         return self.by["rust"]
 
-    def quickest_ratio(self):
-        return self.quickest["port"] / self.quickest["rust"]
+    def quickest_ratio(self, side="rust"):
+        return self.quickest["port"] / self.quickest[side]
 
     def count_ratio(self):
         return self.count["port"] / self.count["rust"] if self.count else None
@@ -40,9 +40,13 @@ class Row:
         """How fast the port goes through a file, as a share of the rate of one copy of it."""
         return 1 / self.by["copies"] if self.table == "files" else None
 
+    def tape_rate(self):
+        """How many megabytes of a tape the program plays in a second."""
+        return int(self.name.split()[0]) / self.median["port"] * 1000
+
     def target(self):
         """The most that port / Rust may be, if anything."""
-        if self.table == "chunk by chunk":
+        if self.table in ("chunk by chunk", "tapes"):
             return None
         if self.table == "split" and "65536 bytes" in self.name:
             return 0.5

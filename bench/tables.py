@@ -16,6 +16,7 @@ TITLES = {
     "growth": "Growth: one feed, by the records that its slot holds before",
     "files": "Files: one .syx file, all its messages listed",
     "headers": "Headers: one name looked up",
+    "tapes": "Tapes: one tape played by the program `tape`",
 }
 
 
@@ -27,6 +28,10 @@ def ns(value):
     if value < 10_000:
         return f"{value:,.0f} ns"
     return f"{value / 1000:,.1f} µs" if value < 100_000 else f"{value / 1000:,.0f} µs"
+
+
+def ms(value):
+    return f"{value / 1_000_000:.2f} ms"
 
 
 def ratio(value):
@@ -51,13 +56,29 @@ def line(words):
     return "| " + " | ".join(words) + " |\n"
 
 
+def grid(title, head, found):
+    rule = ["---"] + ["--:"] * (len(head) - 1)
+    return f"### {title}\n\n" + line(head) + line(rule) + "".join(map(line, found))
+
+
 def table(title, found):
     copies = any("copies" in row.median for row in found)
     head = ["", "port", "Rust", "port / Rust", "quickest", "instructions, port", "Rust", "port / Rust"]
     last = "share of memcpy's rate" if title == TITLES["files"] else "port / two copies"
     head += [last] if copies else []
-    rule = ["---"] + ["--:"] * (len(head) - 1)
-    return f"### {title}\n\n" + line(head) + line(rule) + "".join(line(cells(row, copies)) for row in found)
+    return grid(title, head, [cells(row, copies) for row in found])
+
+
+def tape_cells(row):
+    own = [row.label(), ms(row.median["port"]), f"{row.tape_rate():,.0f}"]
+    for side in ("rust", "copies"):
+        own += [ms(row.median[side]), ratio(row.by[side]), ratio(row.quickest_ratio(side))]
+    return own
+
+
+def tape_table(title, found):
+    head = ["", "tape", "MB/s", "calls from C", "tape / calls", "quickest", "calls and lines from C", "tape / these", "quickest"]
+    return grid(title, head, [tape_cells(row) for row in found])
 
 
 def first_line(*command):
@@ -87,7 +108,7 @@ def counts_in(text):
     counts, name = {}, None
     for words in text.splitlines():
         if words.startswith("### "):
-            name = next((name for name, title in TITLES.items() if words == f"### {title}"), None)
+            name = next((name for name, title in TITLES.items() if words == f"### {title}" and name != "tapes"), None)
         elif name and words.startswith("| ") and not words.startswith("| ---"):
             label, *told = [cell.strip() for cell in words.strip("|").split("|")]
             if label and told[4] and told[5]:
@@ -103,8 +124,9 @@ def keep_counts(found, text):
 
 
 def written(found, counted):
-    parts = [machine(counted)] + [table(title, [row for row in found if row.table == name]) for name, title in TITLES.items()]
-    return "\n".join(parts + [missed(found)])
+    drawn = {"tapes": tape_table}
+    tables = [drawn.get(name, table)(title, [row for row in found if row.table == name]) for name, title in TITLES.items()]
+    return "\n".join([machine(counted)] + tables + [missed(found)])
 
 
 def main():

@@ -1,6 +1,6 @@
-//! Measures the port beside the original, or beside a Rust reader where the original has none. `bench times` prints the times of
-//! each row, and `bench counts`, run by callgrind, has its instructions counted. A second word chooses the rows whose table and
-//! name have it in them.
+//! Measures the port beside the original, or beside a Rust reader where the original has none; and the program `tape` beside calls
+//! from C. `bench times` prints the times of each row, and `bench counts`, run by callgrind, has the instructions counted of those
+//! that run in this process. A second word chooses the rows whose table and name have it in them.
 mod callgrind;
 mod inputs;
 mod measure;
@@ -17,16 +17,26 @@ fn name(row: &Row) -> String {
     format!("{}\t{}", row.table, row.name)
 }
 
-fn each(part: &str, mut visit: impl FnMut(Row)) {
-    rows::each(|row| {
-        if name(&row).replace('\t', " ").contains(part) {
-            visit(row);
-        }
-    });
+fn is_chosen(row: &Row, part: &str) -> bool {
+    name(row).replace('\t', " ").contains(part)
 }
 
 fn times(part: &str) {
-    each(part, |mut row| println!("{}\t{}", name(&row), line(&measure::rounds(&mut row))));
+    let mut time = |mut row: Row| {
+        if is_chosen(&row, part) {
+            println!("{}\t{}", name(&row), line(&measure::rounds(&mut row)));
+        }
+    };
+    rows::each(&mut time);
+    rows::each_of_processes(&mut time);
+}
+
+fn counts(part: &str) {
+    rows::each(|row| {
+        if is_chosen(&row, part) {
+            count(row);
+        }
+    });
 }
 
 /// For each side its median, its quickest turn, and the port's time by its own.
@@ -54,7 +64,7 @@ fn main() {
     let part = args.get(2).map_or("", String::as_str);
     match args.get(1).map(String::as_str) {
         Some("times") => times(part),
-        Some("counts") => each(part, count),
+        Some("counts") => counts(part),
         _ => panic!("usage: bench times [PART], or bench counts [PART]"),
     }
 }

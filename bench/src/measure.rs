@@ -1,6 +1,5 @@
 //! Times: in each round the sides of a row take turns.
-use crate::row::{Row, Side};
-use std::time::Instant;
+use crate::row::Row;
 
 const ROUNDS: usize = 41;
 /// How long a turn takes at least, unless it is prepared.
@@ -21,24 +20,15 @@ fn turns(row: &mut Row, first: usize, runs: u64) -> Vec<f64> {
     let mut taken = vec![0.0; sides];
     for k in 0..sides {
         let side = (first + k) % sides;
-        taken[side] = turn(&mut *row.sides[side], runs);
+        taken[side] = row.sides[side].turn(runs);
     }
     taken
-}
-
-fn turn(side: &mut dyn Side, runs: u64) -> f64 {
-    side.prepare();
-    let start = Instant::now();
-    for _ in 0..runs {
-        side.run();
-    }
-    start.elapsed().as_nanos() as f64
 }
 
 /// So many that each side takes a turn's time.
 fn runs_for_a_turn(row: &mut Row) -> u64 {
     let mut runs = 1;
-    while row.sides.iter_mut().any(|side| turn(&mut **side, runs) < TURN_NS) {
+    while row.sides.iter_mut().any(|side| side.turn(runs) < TURN_NS) {
         runs *= 2;
     }
     runs

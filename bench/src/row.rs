@@ -1,11 +1,21 @@
 //! A row: what both sides do.
 use std::hint::black_box;
+use std::time::Instant;
 
 /// One side of a row.
 pub trait Side {
     /// What goes before each run and is not measured.
     fn prepare(&mut self) {}
     fn run(&mut self);
+    /// How many nanoseconds so many runs take.
+    fn turn(&mut self, runs: u64) -> f64 {
+        self.prepare();
+        let start = Instant::now();
+        for _ in 0..runs {
+            self.run();
+        }
+        start.elapsed().as_nanos() as f64
+    }
 }
 
 impl<F: FnMut()> Side for F {
@@ -21,7 +31,8 @@ pub struct Row {
     pub operations: u64,
     /// Is there something to go before each run?
     pub prepared: bool,
-    /// The port, the Rust, and where there is a body two copies of it, or one copy of a file.
+    /// The port, the Rust, and where there is a body two copies of it, or one copy of a file. Of a tape: the program, the calls from
+    /// C, and these with their lines.
     pub sides: Vec<Box<dyn Side>>,
 }
 

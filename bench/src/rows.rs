@@ -5,10 +5,11 @@ mod growth;
 mod headers;
 mod readers;
 mod split;
+mod tapes;
 
 use crate::row::Row;
 
-/// All rows, one after the other.
+/// All rows that run in this process, one after the other.
 pub fn each(mut visit: impl FnMut(Row)) {
     feed::each(&mut visit);
     split::each(&mut visit);
@@ -16,4 +17,9 @@ pub fn each(mut visit: impl FnMut(Row)) {
     growth::each(&mut visit);
     files::each(&mut visit);
     headers::each(&mut visit);
+}
+
+/// Those whose sides are processes of their own.
+pub fn each_of_processes(mut visit: impl FnMut(Row)) {
+    tapes::each(&mut visit);
 }

@@ -1,5 +1,6 @@
 //! The original's answers, and what the port is to answer.
 pub mod table;
+pub mod tape;
 
 use crate::beyond::{Beyond, No};
 use crate::case::Case;

@@ -1,7 +1,9 @@
-//! Random cases around the boundaries, from a seed, and random runs.
+//! Random cases around the boundaries, from a seed, random runs and random tapes.
 mod damage;
 mod lists;
 pub mod runs;
+mod senders;
+pub mod tapes;
 
 pub use crate::rng::Rng;
 

@@ -30,7 +30,7 @@ pub fn list(rng: &mut Rng, sizes: Sizes, request_id: u8) -> Vec<Vec<u8>> {
     }
 }
 
-fn cut(rng: &mut Rng, request_id: u8, header_len: usize, body_len: usize, max_sysex: u32) -> Vec<Vec<u8>> {
+pub fn cut(rng: &mut Rng, request_id: u8, header_len: usize, body_len: usize, max_sysex: u32) -> Vec<Vec<u8>> {
     split(request_id, &seven_bit(rng, header_len), &body(rng, body_len), max_sysex).expect("a list that can be cut")
 }
 
@@ -47,7 +47,7 @@ fn low(rng: &mut Rng, n: usize) -> Vec<u8> {
     rng.fill(n).iter().map(|b| b & 0x7F).collect()
 }
 
-fn small(rng: &mut Rng, request_id: u8) -> Vec<Vec<u8>> {
+pub fn small(rng: &mut Rng, request_id: u8) -> Vec<Vec<u8>> {
     let header_len = rng.below(12);
     let pieces = rng.pick(&[0, 0, 1, 1, 1, 2, 2, 3, 4]);
     let body_len = if rng.once_in(4) { rng.around(104 * pieces) } else { 104 * pieces + rng.below(40) };
@@ -55,7 +55,7 @@ fn small(rng: &mut Rng, request_id: u8) -> Vec<Vec<u8>> {
 }
 
 /// A small list of which one chunk alone tells the count.
-fn with_late_count(rng: &mut Rng, request_id: u8) -> Vec<Vec<u8>> {
+pub fn with_late_count(rng: &mut Rng, request_id: u8) -> Vec<Vec<u8>> {
     let chunks = small(rng, request_id);
     let teller = rng.below(chunks.len());
     let told = |(k, raw_chunk): (usize, &Vec<u8>)| {
@@ -105,9 +105,9 @@ fn with_header_around_4096(rng: &mut Rng, request_id: u8) -> Vec<Vec<u8>> {
     vec![bytes(PeChunk { request_id, header, num_chunks: 1, chunk_num: 1, property })]
 }
 
-/// Chunks of up to two bytes, some 2,048 of them. All of them tell the count at which they are whole, or none, or one.
-pub fn many(rng: &mut Rng, request_id: u8) -> Vec<Vec<u8>> {
-    let count = 2_046 + rng.below(6);
+/// Chunks of up to two bytes, around `most` of them. All of them tell the count at which they are whole, or none, or one.
+pub fn many(rng: &mut Rng, request_id: u8, most: usize) -> Vec<Vec<u8>> {
+    let count = most - 2 + rng.below(6);
     let one = 1 + rng.below(count);
     let tellers = rng.pick(&[(1, count), (0, 0), (one, one)]);
     let chunk = |k: usize| PeChunk {

@@ -1,10 +1,12 @@
 //! Random runs: a table, and the calls on it, one after the other.
 use super::damage::damage;
 use super::lists::{self, Sizes};
+use super::senders::{self, Sent};
 use crate::call::What;
 use crate::damage::Damage;
 use crate::functions::chunks;
 use crate::inputs::{change, KINDS};
+use crate::layout::FRAGMENT_RECORDS;
 use crate::lent::Lent;
 use crate::original::table::reached;
 use crate::rng::Rng;
@@ -19,17 +21,6 @@ const CALLS: usize = 60;
 /// Once in so many calls the slot that a chunk reaches is damaged first.
 const DAMAGED_IN: usize = 16;
 const PEERS: [usize; 16] = [0, 1, 1, 1, 1, 1, 2, 2, 2, 2, 2, 8, 8, 8, 16, 16];
-const EDGE_PEERS: [u32; 5] = [0x0FFF_FFFF, 0, 1, 0x0FFF_FFFE, 0x0FFF_FF00];
-const REQUEST_IDS: [u8; 8] = [0x05, 0x00, 0x7F, 0x01, 0x02, 0x40, 0x7E, 0x03];
-const TIMES: [u64; 8] = [0, 1, 1_000, 3_000, 1 << 32, 1 << 63, u64::MAX - 4_000, u64::MAX];
-
-/// A list that is being sent: its chunks, the order in which they go, and how many went.
-struct Sent {
-    peer: u32,
-    chunks: Vec<Vec<u8>>,
-    order: Vec<usize>,
-    at: usize,
-}
 
 /// What a run is made of.
 pub struct Script {
@@ -55,18 +46,16 @@ impl Script {
         let start = Start { max_peers, spare: rng.pick(&[0, 0, 3]), clock: clock(&mut rng) };
         let sizes = sizes(&mut rng);
         let named = 1 + rng.below(max_peers + 2);
-        let peers = (0..named).map(|_| if rng.once_in(3) { rng.pick(&EDGE_PEERS) } else { rng.draw() as u32 >> 4 }).collect();
-        let ids = 1 + rng.below(REQUEST_IDS.len());
         let mut script = Script {
             start,
-            peers,
-            request_ids: REQUEST_IDS[..ids].to_vec(),
+            peers: senders::peers(&mut rng, named),
+            request_ids: senders::request_ids(&mut rng),
             sizes,
             lists: Vec::new(),
             side_by_side: 1 + rng.below(if sizes == Sizes::Small { 2 * max_peers + 4 } else { 3 }),
             wrong_in: if sizes == Sizes::Small { rng.pick(&[3, 8, 30, 1_000]) } else { rng.pick(&[60, 1_000]) },
             jumps: rng.once_in(8),
-            now_ms: rng.pick(&TIMES),
+            now_ms: senders::first_time(&mut rng),
             left: CALLS,
             rng,
         };
@@ -81,7 +70,7 @@ impl Script {
     /// The next call, if there is one, given the table as it stands in the original.
     pub fn next(&mut self, r: &Reassembler) -> Option<Call> {
         self.left = self.left.checked_sub(1)?;
-        self.step_time();
+        self.now_ms = senders::next_time(&mut self.rng, self.now_ms, self.jumps);
         let what = self.what(r);
         let call = Call { lent: self.lent(&what), what, damage: Vec::new() };
         Some(Call { damage: self.damage(r, &call), ..call })
@@ -132,24 +121,8 @@ impl Script {
         }
     }
 
-    fn step_time(&mut self) {
-        let by = self.rng.below(100) as u64;
-        self.now_ms = match self.rng.below(32) {
-            0 if self.jumps => self.rng.pick(&TIMES).wrapping_add(by),
-            1 => self.now_ms.saturating_add(2_950 + by),
-            2 => self.now_ms.saturating_sub(50 * by),
-            3..=7 => self.now_ms,
-            _ => self.now_ms.saturating_add(by),
-        };
-    }
-
-    /// A peer of the run, now and then any number.
     fn named(&mut self) -> u32 {
-        match self.rng.below(64) {
-            0 => self.rng.draw() as u32,
-            1 => self.rng.pick(&[0x1000_0000, u32::MAX]),
-            _ => self.rng.pick(&self.peers),
-        }
+        senders::named(&mut self.rng, &self.peers)
     }
 
     /// The records and slots that are open.
@@ -192,23 +165,21 @@ impl Script {
     /// The next chunk of a list, which may stay the next; or now and then one that went before. A list that has gone makes room
     /// for another.
     fn chunk(&mut self, stays: bool) -> (u32, Vec<u8>) {
-        self.lists.retain(|list| list.at < list.order.len());
+        self.lists.retain(|list| !list.has_gone());
         while self.lists.len() < self.side_by_side {
             self.send_another();
         }
         let which = self.rng.below(self.lists.len());
         let again = self.rng.once_in(2 * self.wrong_in);
         let list = &mut self.lists[which];
-        let place = if again { self.rng.below(list.at + 1) } else { list.at };
-        list.at += usize::from(!again && !stays);
-        (list.peer, list.chunks[list.order[place]].clone())
+        let chunk = if again { list.again(&mut self.rng) } else { list.next(stays) };
+        (list.peer, chunk)
     }
 
     /// The next chunk of the list of some 2,048 chunks.
     fn feed_first(&mut self) -> What {
         let list = &mut self.lists[0];
-        let (peer, chunk) = (list.peer, list.chunks[list.order[list.at]].clone());
-        list.at += 1;
+        let (peer, chunk) = (list.peer, list.next(false));
         self.fed(peer, chunk)
     }
 
@@ -236,20 +207,15 @@ impl Script {
     fn send_many(&mut self) {
         if self.sizes == Sizes::Many {
             let request_id = self.request_ids[0];
-            let chunks = lists::many(&mut self.rng, request_id);
+            let chunks = lists::many(&mut self.rng, request_id, FRAGMENT_RECORDS);
             self.left += chunks.len();
             self.send(chunks);
         }
     }
 
     fn send(&mut self, chunks: Vec<Vec<u8>>) {
-        let mut order: Vec<usize> = (0..chunks.len()).collect();
-        match self.rng.below(8) {
-            0..=3 => (),
-            4 => order.reverse(),
-            _ => self.rng.shuffle(&mut order),
-        }
-        self.lists.push(Sent { peer: self.rng.pick(&self.peers), chunks, order, at: 0 });
+        let sent = Sent::new(&mut self.rng, chunks, &self.peers);
+        self.lists.push(sent);
     }
 
     /// A message around a chunk; in a list that goes as others do, once in `wrong_in` with up to two bytes changed, cut short,

@@ -1,14 +1,16 @@
-//! Compares the port with the original: `compare SEED CASES RUNS`. All inputs of a function where they are few; else all that are
-//! short or at the boundaries, and then CASES random ones; then RUNS runs of calls on a table. What the original lacks is
-//! compared with a reading of document 02; so is what K3 of that document turns down and the original does not, which is left
-//! out of the runs. It stops at the first difference. It fails too where an export is not compared, or never gave a refusal that
-//! it can give, or where nothing was left out for one of K3's questions. `compare exports` prints the names of the exports that
-//! are compared.
+//! Compares the port with the original: `compare SEED CASES RUNS PROGRAM`. All inputs of a function where they are few; else all
+//! that are short or at the boundaries, and then CASES random ones; then RUNS runs of calls on a table; then a tape for every
+//! tenth run through PROGRAM, which is `tape`. What the original lacks is compared with a reading of document 02; so is what
+//! K3 of that document turns down and the original does not, which is left out of the runs. It stops at the first difference. It
+//! fails too where an export is not compared, or never gave a refusal that it can give, where nothing was left out for one of
+//! K3's questions, or where a kind of line never came. `compare tapes SEED TAPES PROGRAM` compares tapes alone, `compare exports`
+//! prints the names of the exports that are compared.
 mod port;
 mod runs;
 mod state;
 mod summary;
 mod table;
+mod tapes;
 
 use oracle::call::What;
 use oracle::case::Case;
@@ -22,6 +24,8 @@ use summary::Summary;
 
 /// So many runs give every refusal that an export can give; the inputs at the boundaries give all of a function's.
 const RUNS_FOR_ALL: u64 = 2_000;
+/// A tape for so many runs.
+const RUNS_FOR_A_TAPE: u64 = 10;
 
 fn compared() -> Vec<Export> {
     Op::ALL.iter().map(|(_, export)| *export).chain(What::exports()).collect()
@@ -117,18 +121,37 @@ fn check_left_out(runs: u64, summary: &Summary) -> Result<(), String> {
     Ok(())
 }
 
+/// Tapes through the program. Of fewer than reach every kind of line it is only said which one is missing.
+fn compare_tapes(seed: u64, tapes: u64, program: &str) -> Result<(), String> {
+    println!("{tapes} tapes through {program} (K4), each in pieces, and how often each kind of line came");
+    let seen = tapes::compare(program, seed, tapes).map_err(differs)?;
+    println!("{}", seen.told());
+    seen.check().map_err(|unknown| format!("A LINE THAT IS NOT LISTED: {unknown}"))?;
+    let for_all = RUNS_FOR_ALL / RUNS_FOR_A_TAPE;
+    match seen.missing() {
+        None => println!("Each kind of line came that a command can have, and each end of a tape."),
+        Some(missing) if tapes >= for_all => return Err(format!("NOT ALL LINES: {missing}")),
+        Some(missing) => println!("Too few tapes to reach every kind of line: {missing}. {for_all} reach all."),
+    }
+    Ok(())
+}
+
+fn differs(difference: String) -> String {
+    format!("DIFFERENCE: {difference}")
+}
+
 fn number(word: &str, name: &str) -> Result<u64, String> {
     word.parse().map_err(|e| format!("{name} is {word}: {e}"))
 }
 
-fn compare_both(seed: u64, cases: u64, runs: u64) -> Result<(), String> {
+fn compare_all_parts(seed: u64, cases: u64, runs: u64, program: &str) -> Result<(), String> {
     let mut summary = Summary::default();
-    let differs = |difference| format!("DIFFERENCE: {difference}");
     compare_functions(seed, cases, &mut summary).map_err(differs)?;
     compare_runs(seed, runs, &mut summary).map_err(differs)?;
     println!("{}, no difference", summary.totals(&compared()));
     check_refusals(runs, &summary)?;
-    check_left_out(runs, &summary)
+    check_left_out(runs, &summary)?;
+    compare_tapes(seed, runs.div_ceil(RUNS_FOR_A_TAPE), program)
 }
 
 fn run(args: &[&str]) -> Result<(), String> {
@@ -138,8 +161,11 @@ fn run(args: &[&str]) -> Result<(), String> {
             compared().iter().for_each(|export| println!("{}", export.name));
             Ok(())
         }
-        [seed, cases, runs] => compare_both(number(seed, "SEED")?, number(cases, "CASES")?, number(runs, "RUNS")?),
-        _ => Err("usage: compare SEED CASES RUNS, or compare exports".into()),
+        ["tapes", seed, tapes, program] => compare_tapes(number(seed, "SEED")?, number(tapes, "TAPES")?, program),
+        [seed, cases, runs, program] => {
+            compare_all_parts(number(seed, "SEED")?, number(cases, "CASES")?, number(runs, "RUNS")?, program)
+        }
+        _ => Err("usage: compare SEED CASES RUNS PROGRAM, compare tapes SEED TAPES PROGRAM, or compare exports".into()),
     }
 }
 

@@ -180,12 +180,12 @@ fn output<T: Copy + PartialEq>(name: &str, out: &mut [T], written: &[T], before:
     Ok(out.len() as u64)
 }
 
-fn counted(answer: exports::Answer) -> Told {
+pub fn counted(answer: exports::Answer) -> Told {
     let exports::Answer { refusal, value, count } = answer;
     Told { refusal, value, numbers: [count, 0, 0] }
 }
 
-fn fed(answer: exports::FedAnswer) -> Told {
+pub fn fed(answer: exports::FedAnswer) -> Told {
     let exports::FedAnswer { refusal, value, whole, header_len, body_len } = answer;
     Told { refusal, value, numbers: [whole.into(), header_len, body_len] }
 }

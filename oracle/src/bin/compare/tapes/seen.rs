@@ -1,0 +1,86 @@
+//! What was compared of tapes: how many, and how often each kind of line came.
+use oracle::outcome::Answer;
+use oracle::run::Told;
+use oracle::tape::{Command, Tape, CODES, CUT_OFF, UNKNOWN};
+use std::collections::{BTreeMap, BTreeSet};
+
+/// The commands' names, and the refusals that they can have on a tape: what is lent is right there, and nobody else writes it.
+const NAMES: [&str; CODES.len()] = ["feed", "cancel", "drop", "poll"];
+const REFUSALS: [&[u8]; CODES.len()] = [&[28, 2, 1, 8, 7, 6, 4, 5], &[28], &[28], &[]];
+
+#[derive(Default)]
+pub struct Seen {
+    pub tapes: u64,
+    pub bytes: u64,
+    /// How many tapes the original played to their last command, and how many lines it gave.
+    pub by_original: u64,
+    pub lines_by_original: u64,
+    lines: BTreeMap<(u8, Answer), u64>,
+    last: BTreeMap<Option<u8>, u64>,
+}
+
+/// The kinds of lines that commands can have.
+fn kinds() -> BTreeSet<(u8, Answer)> {
+    let granted = |code| if code == CODES[0] { [Answer::Waiting, Answer::Whole] } else { [Answer::No, Answer::Yes] };
+    let refused = |refusals: &'static [u8]| refusals.iter().map(|number| Answer::Refused(*number));
+    let of = |(code, refusals): (u8, _)| granted(code).into_iter().chain(refused(refusals)).map(move |answer| (code, answer));
+    CODES.into_iter().zip(REFUSALS).flat_map(of).collect()
+}
+
+fn name((code, answer): &(u8, Answer)) -> String {
+    format!("{code} {}: {answer}", NAMES[usize::from(*code) - 1])
+}
+
+impl Seen {
+    pub fn count_line(&mut self, command: &Command, told: Told) {
+        *self.lines.entry((command.code(), command.answer(told))).or_default() += 1;
+    }
+
+    /// A tape that was compared, with the lines that the original gave.
+    pub fn count_tape(&mut self, tape: &Tape, bytes: usize, by_original: &[Option<String>]) {
+        self.tapes += 1;
+        self.bytes += bytes as u64;
+        self.by_original += u64::from(by_original.len() == tape.commands.len());
+        self.lines_by_original += by_original.iter().flatten().count() as u64;
+        *self.last.entry(tape.last).or_default() += 1;
+    }
+
+    fn of(&self, code: u8) -> Vec<(Answer, u64)> {
+        self.lines.iter().filter(|((of, _), _)| *of == code).map(|((_, answer), n)| (*answer, *n)).collect()
+    }
+
+    fn line(&self, code: u8) -> String {
+        let told: Vec<String> = self.of(code).iter().map(|(answer, n)| format!("{answer}: {n}")).collect();
+        let total: u64 = self.of(code).iter().map(|(_, n)| n).sum();
+        format!("{:35} {total:>9}   {}", format!("{code} {}", NAMES[usize::from(code) - 1]), told.join(", "))
+    }
+
+    fn last(&self, number: Option<u8>) -> u64 {
+        self.last.get(&number).copied().unwrap_or(0)
+    }
+
+    pub fn told(&self) -> String {
+        let lines: String = CODES.map(|code| self.line(code) + "\n").concat();
+        let (unknown, cut_off, none) = (self.last(Some(UNKNOWN)), self.last(Some(CUT_OFF)), self.last(None));
+        let commands: u64 = self.lines.values().sum();
+        format!(
+            "{lines}last lines: r36: {unknown}, r37: {cut_off}, none: {none}\n\
+             {} tapes, {} bytes, {commands} commands through the program and one by one through the exports, no difference;\n\
+             {} of them answered by the original too, {} tapes to their last command",
+            self.tapes, self.bytes, self.lines_by_original, self.by_original
+        )
+    }
+
+    /// Was there a line that no command can have?
+    pub fn check(&self) -> Result<(), String> {
+        let kinds = kinds();
+        self.lines.keys().find(|kind| !kinds.contains(kind)).map_or(Ok(()), |kind| Err(name(kind)))
+    }
+
+    /// Which kind of line, or of a tape's end, never came?
+    pub fn missing(&self) -> Option<String> {
+        let line = kinds().iter().find(|kind| !self.lines.contains_key(kind)).map(name);
+        let ends = [Some(UNKNOWN), Some(CUT_OFF), None];
+        line.or_else(|| ends.iter().find(|end| self.last(**end) == 0).map(|end| format!("last line {end:?}")))
+    }
+}

@@ -1,0 +1,33 @@
+//! The lines of a tape by the original's answers, on its table of full size, as far as that goes.
+use super::table::{call, left_out, reached};
+use crate::beyond::OF_CHUNK;
+use crate::call::What;
+use crate::lent::Lent;
+use crate::run::Call;
+use crate::tape::{Command, Tape, FRAGMENT_RECORDS, HEADER_BYTES, MAX_PEERS, TX_BYTES};
+use midici_pe::frame::PeChunkRef;
+use midici_pe::reassembler::{probe, Reassembler};
+
+/// A line for each command up to the first to which a table of full size could give another answer than the tape's ("Domain: ..
+/// full size for the table"), or whose chunk K3 turns down in its slot, which is then another than the original's. A chunk that
+/// K3 turns down in reading it leaves the table as it is: it has no line here, and the next command has.
+pub fn lines(tape: &Tape) -> Vec<Option<String>> {
+    let mut r = Reassembler::new(MAX_PEERS);
+    let line = |command: &Command| {
+        let made = Call { lent: Lent::Right, what: command.what(), damage: Vec::new() };
+        match left_out(&r, &made) {
+            Some(beyond) => OF_CHUNK.contains(&beyond).then_some(None),
+            None => fits(&r, &made).then(|| Some(command.line(call(&mut r, &made).0))),
+        }
+    };
+    tape.commands.iter().map_while(line).collect()
+}
+
+/// Would a slot of the tape's table have room for what a call brings?
+fn fits(r: &Reassembler, call: &Call) -> bool {
+    let (Some(slot), What::Feed { raw_chunk, .. }) = (reached(r, call), &call.what) else { return true };
+    let Ok(chunk) = PeChunkRef::decode(raw_chunk) else { return true };
+    let slot = probe::slot(r, slot / probe::PEER_SLOTS, slot % probe::PEER_SLOTS);
+    let body_len = slot.property_bytes() + chunk.property.len();
+    chunk.header.len() <= HEADER_BYTES && slot.records() < FRAGMENT_RECORDS && body_len <= TX_BYTES
+}
