@@ -2,7 +2,7 @@
 -- Assumes nothing.
 use Prim.Native.Nat.{ℕ, _+_, _-_, _≤_}
 use mathlib.Core.Bool.{cond}
-use mathlib.Core.List.{List}
+use mathlib.Core.List.{List, []}
 use mathlib.Core.Option.{Option, none, some}
 use lib.Dec.{leb}
 use lib.ListN.{length}
@@ -10,18 +10,14 @@ use Rattle.seven_bit.specs.Parts.{put}
 use Rattle.seven_bit.specs.Reply.{Reply, granted, refused}
 use Rattle.pe_reassembler.specs.Feed.{Memory}
 use Rattle.pe_tape.specs.declared.command.Command.{Command as TapeCommand}
-use Rattle.pe_tape.specs.declared.command.Command.the-variants.{Feed, Cancel, Drop, Poll}
 use Rattle.pe_tape.specs.declared.play.Step.{Step}
 use Rattle.pe_tape.specs.Line.{lineLen}
-use Rattle.pe_tape.specs.Play.{makeCall, lineOf}
-use Rattle.pe_tape.specs.Told.{Placed, stopTold}
+use Rattle.pe_tape.specs.Play.{makeCall, kindOf, lineOf}
+use Rattle.pe_tape.specs.Told.{commandOf, Placed, stopTold}
 
--- The byte of a command.
+-- The byte of a command, whatever bytes go with it.
 abbrev pub kindTold : TapeCommand → ℕ
-kindTold (Feed f) = 1
-kindTold (Cancel peer request-id) = 2
-kindTold (Drop peer) = 3
-kindTold (Poll now-ms) = 4
+kindTold c = kindOf (commandOf [] c)
 
 -- Where the next command begins and the place behind the line, or why there is none.
 pub data Stepped : Type 0 where
