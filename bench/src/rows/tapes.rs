@@ -84,7 +84,7 @@ fn fed(rng: &mut Rng, peer: u32, request_id: u8, max_sysex: u32) -> Vec<Played> 
 }
 
 fn program(tape: &Path) -> Command {
-    let mut command = Command::new(root().join("target/bin/tape"));
+    let mut command = Command::new(root().join("target/programs/tape"));
     command.stdin(File::open(tape).expect("a tape"));
     command
 }
