@@ -1,6 +1,14 @@
 //! A table's memory: its full size, and where each number stands in it.
 use midici_pe::reassembler::probe::{Slot, PEER_SLOTS};
 
+/// For how many peers a table is, and how many bytes of a header, of a body, and records each slot has room for.
+pub struct Shape {
+    pub max_peers: usize,
+    pub header_bytes: usize,
+    pub tx_bytes: usize,
+    pub fragment_records: usize,
+}
+
 /// Full size, and the most peers that a table has.
 pub const HEADER_BYTES: usize = 4_096;
 pub const TX_BYTES: usize = 65_536;

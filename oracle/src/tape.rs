@@ -1,14 +1,12 @@
 //! Tapes: a reading of document 02's K4. A tape's commands, their bytes, and the lines that playing it prints.
 use crate::call::What;
 use crate::input::{u16_at, u32_at, u64_at, u8_at};
+use crate::layout::Shape;
 use crate::outcome::Answer;
 use crate::run::Told;
 
 /// "a table of 2 consoles, H 256, B 4,096, R 64".
-pub const MAX_PEERS: usize = 2;
-pub const HEADER_BYTES: usize = 256;
-pub const TX_BYTES: usize = 4_096;
-pub const FRAGMENT_RECORDS: usize = 64;
+pub const SHAPE: Shape = Shape { max_peers: 2, header_bytes: 256, tx_bytes: 4_096, fragment_records: 64 };
 
 /// "The bytes 01 05 .. 00 print `1 w 2 0` and `4 0`."
 pub const EXAMPLE: [u8; 35] = [
@@ -21,8 +19,12 @@ pub const EXAMPLE_LINES: &str = "1 w 2 0\n4 0\n";
 pub const UNKNOWN: u8 = 36;
 pub const CUT_OFF: u8 = 37;
 
-/// The bytes of the commands, in their order: feed, cancel, drop, poll.
-pub const CODES: [u8; 4] = [1, 2, 3, 4];
+/// The bytes of the commands.
+pub const FEED: u8 = 1;
+const CANCEL: u8 = 2;
+const DROP_PEER: u8 = 3;
+const POLL: u8 = 4;
+pub const CODES: [u8; 4] = [FEED, CANCEL, DROP_PEER, POLL];
 
 pub enum Command {
     Feed { peer: u32, now_ms: u64, raw_chunk: Vec<u8> },
@@ -63,41 +65,41 @@ impl Command {
     /// (console 4, request id 1), 03 drop (console 4), 04 poll (time 8); operands low byte first." The command that bytes begin
     /// with and how many it has, or the number of the last line.
     fn read(bytes: &[u8]) -> Result<(Command, usize), u8> {
-        let len = match bytes[0] {
-            1 => 15 + usize::from(u16_at(bytes, 13)),
-            2 => 6,
-            3 => 5,
-            4 => 9,
+        let peer = u32_at(bytes, 1);
+        let (command, len) = match bytes[0] {
+            FEED => {
+                let len = 15 + usize::from(u16_at(bytes, 13));
+                let raw_chunk = bytes.get(15..len).unwrap_or(&[]).to_vec();
+                (Command::Feed { peer, now_ms: u64_at(bytes, 5), raw_chunk }, len)
+            }
+            CANCEL => (Command::Cancel { peer, request_id: u8_at(bytes, 5) }, 6),
+            DROP_PEER => (Command::DropPeer { peer }, 5),
+            POLL => (Command::Poll { now_ms: u64_at(bytes, 1) }, 9),
             _ => return Err(UNKNOWN),
         };
-        let bytes = bytes.get(..len).ok_or(CUT_OFF)?;
-        let peer = u32_at(bytes, 1);
-        let command = match bytes[0] {
-            1 => Command::Feed { peer, now_ms: u64_at(bytes, 5), raw_chunk: bytes[15..].to_vec() },
-            2 => Command::Cancel { peer, request_id: u8_at(bytes, 5) },
-            3 => Command::DropPeer { peer },
-            _ => Command::Poll { now_ms: u64_at(bytes, 1) },
-        };
+        if bytes.len() < len {
+            return Err(CUT_OFF);
+        }
         Ok((command, len))
     }
 
     pub fn code(&self) -> u8 {
         match self {
-            Command::Feed { .. } => 1,
-            Command::Cancel { .. } => 2,
-            Command::DropPeer { .. } => 3,
-            Command::Poll { .. } => 4,
+            Command::Feed { .. } => FEED,
+            Command::Cancel { .. } => CANCEL,
+            Command::DropPeer { .. } => DROP_PEER,
+            Command::Poll { .. } => POLL,
         }
     }
 
-    /// Its bytes. A chunk has at most 65,535.
+    /// Its bytes.
     pub fn write(&self, tape: &mut Vec<u8>) {
         tape.push(self.code());
         match self {
             Command::Feed { peer, now_ms, raw_chunk } => {
                 tape.extend(peer.to_le_bytes());
                 tape.extend(now_ms.to_le_bytes());
-                tape.extend((raw_chunk.len() as u16).to_le_bytes());
+                tape.extend(u16::try_from(raw_chunk.len()).expect("a chunk of at most 65,535 bytes").to_le_bytes());
                 tape.extend(raw_chunk);
             }
             Command::Cancel { peer, request_id } => {

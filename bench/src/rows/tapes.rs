@@ -4,8 +4,7 @@ use crate::inputs::{rng, seven_bit};
 use crate::row::{Row, Side};
 use midici_pe::chunker::split;
 use oracle::rng::Rng;
-use oracle::tape::Command as Played;
-use oracle::tape::TX_BYTES;
+use oracle::tape::{Command as Played, SHAPE};
 use std::fs::{self, File};
 use std::path::{Path, PathBuf};
 use std::process::{Command, Stdio};
@@ -77,7 +76,7 @@ fn commands_of_a_turn(rng: &mut Rng, turn: u64, max_sysex: u32) -> Vec<Played> {
 
 /// The feeds of a list with a header of 48 bytes and a body of 1,000 bytes up to all for which there is room.
 fn fed(rng: &mut Rng, peer: u32, request_id: u8, max_sysex: u32) -> Vec<Played> {
-    let body_len = 1_000 + rng.below(TX_BYTES - 999);
+    let body_len = 1_000 + rng.below(SHAPE.tx_bytes - 999);
     let (header, body) = (seven_bit(rng, 48), seven_bit(rng, body_len));
     let chunks = split(request_id, &header, &body, max_sysex).expect("a list that can be cut");
     chunks.into_iter().map(|raw_chunk| Played::Feed { peer, now_ms: 0, raw_chunk }).collect()

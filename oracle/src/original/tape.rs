@@ -4,7 +4,7 @@ use crate::beyond::OF_CHUNK;
 use crate::call::What;
 use crate::lent::Lent;
 use crate::run::Call;
-use crate::tape::{Command, Tape, FRAGMENT_RECORDS, HEADER_BYTES, MAX_PEERS, TX_BYTES};
+use crate::tape::{Command, Tape, SHAPE};
 use midici_pe::frame::PeChunkRef;
 use midici_pe::reassembler::{probe, Reassembler};
 
@@ -12,7 +12,7 @@ use midici_pe::reassembler::{probe, Reassembler};
 /// full size for the table"), or whose chunk K3 turns down in its slot, which is then another than the original's. A chunk that
 /// K3 turns down in reading it leaves the table as it is: it has no line here, and the next command has.
 pub fn lines(tape: &Tape) -> Vec<Option<String>> {
-    let mut r = Reassembler::new(MAX_PEERS);
+    let mut r = Reassembler::new(SHAPE.max_peers);
     let line = |command: &Command| {
         let made = Call { lent: Lent::Right, what: command.what(), damage: Vec::new() };
         match left_out(&r, &made) {
@@ -29,5 +29,5 @@ fn fits(r: &Reassembler, call: &Call) -> bool {
     let Ok(chunk) = PeChunkRef::decode(raw_chunk) else { return true };
     let slot = probe::slot(r, slot / probe::PEER_SLOTS, slot % probe::PEER_SLOTS);
     let body_len = slot.property_bytes() + chunk.property.len();
-    chunk.header.len() <= HEADER_BYTES && slot.records() < FRAGMENT_RECORDS && body_len <= TX_BYTES
+    chunk.header.len() <= SHAPE.header_bytes && slot.records() < SHAPE.fragment_records && body_len <= SHAPE.tx_bytes
 }

@@ -4,7 +4,7 @@ use super::senders::{self, Sent};
 use crate::functions::chunks;
 use crate::inputs::seven_bit;
 use crate::rng::Rng;
-use crate::tape::{Command, CODES, FRAGMENT_RECORDS, HEADER_BYTES, TX_BYTES};
+use crate::tape::{Command, FEED, SHAPE};
 use midici_pe::frame::PeChunk;
 
 /// How many commands a tape has.
@@ -239,7 +239,7 @@ fn list(rng: &mut Rng, request_id: u8) -> Vec<Vec<u8>> {
         0 => lists::with_late_count(rng, request_id),
         1..=4 => lists::small(rng, request_id),
         _ => {
-            let (header_len, body_len, max_sysex) = (rng.below(100), rng.below(TX_BYTES + 1), rng.pick(&LIMITS));
+            let (header_len, body_len, max_sysex) = (rng.below(100), rng.below(SHAPE.tx_bytes + 1), rng.pick(&LIMITS));
             lists::cut(rng, request_id, header_len, body_len, max_sysex)
         }
     }
@@ -248,9 +248,9 @@ fn list(rng: &mut Rng, request_id: u8) -> Vec<Vec<u8>> {
 /// One that just has room, or just not: its body, its header, its number of chunks; or any of a run's.
 fn list_around_rooms(rng: &mut Rng, request_id: u8) -> Vec<Vec<u8>> {
     let (header_len, body_len, max_sysex) = match rng.below(6) {
-        0..=1 => (rng.below(100), rng.around(TX_BYTES), rng.pick(&LIMITS)),
-        2..=3 => (rng.around(HEADER_BYTES), rng.below(600), 512),
-        4 => return lists::many(rng, request_id, FRAGMENT_RECORDS),
+        0..=1 => (rng.below(100), rng.around(SHAPE.tx_bytes), rng.pick(&LIMITS)),
+        2..=3 => (rng.around(SHAPE.header_bytes), rng.below(600), 512),
+        4 => return lists::many(rng, request_id, SHAPE.fragment_records),
         _ => return lists::list(rng, Sizes::Small, request_id),
     };
     lists::cut(rng, request_id, header_len, body_len, max_sysex)
@@ -263,7 +263,7 @@ fn long(rng: &mut Rng) -> Vec<u8> {
     let mut bytes = chunk.to_vec().expect("a chunk that can be written");
     if rng.once_in(2) {
         let len = LONGEST - rng.pick(&[0, 1, 20_000]);
-        bytes.resize(len, CODES[0]);
+        bytes.resize(len, FEED);
     }
     bytes
 }

@@ -1,12 +1,14 @@
 //! What was compared of tapes: how many, and how often each kind of line came.
 use oracle::outcome::Answer;
 use oracle::run::Told;
-use oracle::tape::{Command, Tape, CODES, CUT_OFF, UNKNOWN};
+use oracle::tape::{Command, Tape, CODES, CUT_OFF, FEED, UNKNOWN};
 use std::collections::{BTreeMap, BTreeSet};
 
 /// The commands' names, and the refusals that they can have on a tape: what is lent is right there, and nobody else writes it.
 const NAMES: [&str; CODES.len()] = ["feed", "cancel", "drop", "poll"];
 const REFUSALS: [&[u8]; CODES.len()] = [&[28, 2, 1, 8, 7, 6, 4, 5], &[28], &[28], &[]];
+/// The numbers of last lines, and that there is none.
+const LAST: [Option<u8>; 3] = [Some(UNKNOWN), Some(CUT_OFF), None];
 
 #[derive(Default)]
 pub struct Seen {
@@ -21,7 +23,7 @@ pub struct Seen {
 
 /// The kinds of lines that commands can have.
 fn kinds() -> BTreeSet<(u8, Answer)> {
-    let granted = |code| if code == CODES[0] { [Answer::Waiting, Answer::Whole] } else { [Answer::No, Answer::Yes] };
+    let granted = |code| if code == FEED { [Answer::Waiting, Answer::Whole] } else { [Answer::No, Answer::Yes] };
     let refused = |refusals: &'static [u8]| refusals.iter().map(|number| Answer::Refused(*number));
     let of = |(code, refusals): (u8, _)| granted(code).into_iter().chain(refused(refusals)).map(move |answer| (code, answer));
     CODES.into_iter().zip(REFUSALS).flat_map(of).collect()
@@ -29,6 +31,10 @@ fn kinds() -> BTreeSet<(u8, Answer)> {
 
 fn name((code, answer): &(u8, Answer)) -> String {
     format!("{code} {}: {answer}", NAMES[usize::from(*code) - 1])
+}
+
+fn last_name(last: Option<u8>) -> String {
+    last.map_or("none".into(), |number| format!("r{number}"))
 }
 
 impl Seen {
@@ -61,10 +67,10 @@ impl Seen {
 
     pub fn told(&self) -> String {
         let lines: String = CODES.map(|code| self.line(code) + "\n").concat();
-        let (unknown, cut_off, none) = (self.last(Some(UNKNOWN)), self.last(Some(CUT_OFF)), self.last(None));
+        let last = LAST.map(|last| format!("{}: {}", last_name(last), self.last(last))).join(", ");
         let commands: u64 = self.lines.values().sum();
         format!(
-            "{lines}last lines: r36: {unknown}, r37: {cut_off}, none: {none}\n\
+            "{lines}last lines: {last}\n\
              {} tapes, {} bytes, {commands} commands through the program and one by one through the exports, no difference;\n\
              {} of them answered by the original too, {} tapes to their last command",
             self.tapes, self.bytes, self.lines_by_original, self.by_original
@@ -80,7 +86,7 @@ impl Seen {
     /// Which kind of line, or of a tape's end, never came?
     pub fn missing(&self) -> Option<String> {
         let line = kinds().iter().find(|kind| !self.lines.contains_key(kind)).map(name);
-        let ends = [Some(UNKNOWN), Some(CUT_OFF), None];
-        line.or_else(|| ends.iter().find(|end| self.last(**end) == 0).map(|end| format!("last line {end:?}")))
+        let last = || LAST.into_iter().find(|last| self.last(*last) == 0);
+        line.or_else(|| last().map(|last| format!("last line {}", last_name(last))))
     }
 }

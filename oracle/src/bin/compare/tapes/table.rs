@@ -1,12 +1,14 @@
 //! The table of a tape, and the calls that its commands stand for, one by one, through the exports of crates/hub.
 use crate::table::{counted, fed};
-use oracle::layout::{numbers_len, slots};
+use oracle::layout::{numbers_len, slots, Shape};
 use oracle::run::Told;
-use oracle::tape::{Command, FRAGMENT_RECORDS, HEADER_BYTES, MAX_PEERS, TX_BYTES};
+use oracle::tape::{self, Command};
 
-const SHAPE: exports::Shape =
-    exports::Shape { max_peers: MAX_PEERS, header_bytes: HEADER_BYTES, tx_bytes: TX_BYTES, fragment_records: FRAGMENT_RECORDS };
-const SLOTS: usize = slots(MAX_PEERS);
+const SHAPE: exports::Shape = {
+    let Shape { max_peers, header_bytes, tx_bytes, fragment_records } = tape::SHAPE;
+    exports::Shape { max_peers, header_bytes, tx_bytes, fragment_records }
+};
+const SLOTS: usize = slots(SHAPE.max_peers);
 
 pub struct Table {
     numbers: Vec<u64>,
@@ -23,12 +25,12 @@ impl Table {
     /// In memory that holds anything before `new`.
     pub fn new() -> Result<Table, String> {
         let mut table = Table {
-            numbers: vec![0xA5; numbers_len(MAX_PEERS)],
-            index: vec![0xA5; SLOTS * FRAGMENT_RECORDS],
-            headers: vec![0xA5; SLOTS * HEADER_BYTES],
-            arenas: vec![0xA5; SLOTS * TX_BYTES],
-            out_header: vec![0xA5; HEADER_BYTES],
-            out_body: vec![0xA5; TX_BYTES],
+            numbers: vec![0xA5; numbers_len(SHAPE.max_peers)],
+            index: vec![0xA5; SLOTS * SHAPE.fragment_records],
+            headers: vec![0xA5; SLOTS * SHAPE.header_bytes],
+            arenas: vec![0xA5; SLOTS * SHAPE.tx_bytes],
+            out_header: vec![0xA5; SHAPE.header_bytes],
+            out_body: vec![0xA5; SHAPE.tx_bytes],
             out_peers: vec![0xA5; SLOTS],
             out_request_ids: vec![0xA5; SLOTS],
         };
