@@ -25,6 +25,13 @@ pub const OF_CHUNK: [Beyond; 2] = [Beyond::PropertyByte, Beyond::OwnCount];
 pub const OF_CUTTER: [Beyond; 1] = [Beyond::PropertyByte];
 pub const OF_SLOT: [Beyond; 4] = [Beyond::PropertyByte, Beyond::OwnCount, Beyond::KnownCount, Beyond::HeldNumber];
 
+impl Beyond {
+    /// Does it turn a chunk down by its own bytes, whatever its slot holds?
+    pub fn is_by_bytes(self) -> bool {
+        OF_CHUNK.contains(&self)
+    }
+}
+
 impl fmt::Display for Beyond {
     fn fmt(&self, f: &mut fmt::Formatter) -> fmt::Result {
         f.write_str(match self {

@@ -31,7 +31,7 @@ const fn row(name: &'static str, refusals: &'static [u8], lent: &'static [Part],
 }
 
 impl Row {
-    /// It feeds a chunk: what K3 turns down is left out of the runs.
+    /// It feeds a chunk: what K3 turns down of it is not put to the original.
     const fn feeds(self) -> Row {
         Row { export: Export { beyond: &OF_SLOT, ..self.export }, ..self }
     }

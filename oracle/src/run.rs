@@ -2,6 +2,7 @@
 use crate::call::What;
 use crate::damage::Damage;
 use crate::lent::Lent;
+use crate::outcome::Refusal;
 use std::fmt;
 
 /// How a table is made: for so many peers, in memory that is longer than it needs by so many places; and the clock that it
@@ -28,6 +29,12 @@ pub struct Told {
     pub refusal: u8,
     pub value: u8,
     pub numbers: [u64; 3],
+}
+
+impl From<Refusal> for Told {
+    fn from(Refusal { number, value }: Refusal) -> Told {
+        Told { refusal: number, value, numbers: [0; 3] }
+    }
 }
 
 impl fmt::Display for Call {

@@ -1,5 +1,5 @@
 //! The original's answers to the calls of a run, the slots that they reach, and the calls that are left out.
-use crate::beyond::{self, Beyond};
+use crate::beyond::{self, Asked, Beyond, No};
 use crate::call::{muid, What, Written};
 use crate::lent::Lent;
 use crate::outcome::Refusal;
@@ -19,7 +19,7 @@ pub fn call(r: &mut Reassembler, call: &Call) -> (Told, Written) {
     };
     let told = match numbers {
         Ok(numbers) => Told { refusal: 0, value: 0, numbers },
-        Err(Refusal { number, value }) => Told { refusal: number, value, numbers: [0; 3] },
+        Err(refusal) => refusal.into(),
     };
     (told, written)
 }
@@ -45,21 +45,23 @@ pub fn reached(r: &Reassembler, call: &Call) -> Option<usize> {
     slot_for(r, peer, PeChunkRef::decode(&raw_chunk).ok()?.request_id)
 }
 
-/// What K3 turns down of a call, where it does: such a call is left out of a run.
-pub fn left_out(r: &Reassembler, call: &Call) -> Option<Beyond> {
+/// What K3 turns down of a call, where it does, and with which refusal: such a call is not put to the original.
+pub fn left_out(r: &Reassembler, call: &Call) -> Option<(Refusal, Beyond)> {
     let (peer, raw_chunk) = fed(call)?;
     left_out_chunk(r, peer, &raw_chunk)
 }
 
 /// What K3 turns down of a chunk that a peer sends: by its bytes, or by what the slot holds that it reaches.
-pub fn left_out_chunk(r: &Reassembler, peer: Muid, raw_chunk: &[u8]) -> Option<Beyond> {
-    let chunk = match beyond::read(raw_chunk) {
-        Ok(chunk) => chunk,
-        Err(no) => return no.beyond,
-    };
-    let slot = slot_for(r, peer, chunk.request_id)?;
-    let slot = probe::slot(r, slot / probe::PEER_SLOTS, slot % probe::PEER_SLOTS);
-    beyond::slot_takes(slot, chunk).err()?.beyond
+pub fn left_out_chunk(r: &Reassembler, peer: Muid, raw_chunk: &[u8]) -> Option<(Refusal, Beyond)> {
+    let No { refusal, beyond } = asked(r, peer, raw_chunk).err()?;
+    Some((refusal, beyond?))
+}
+
+/// What the reading asks of a chunk, and of the slot where it reaches one.
+fn asked(r: &Reassembler, peer: Muid, raw_chunk: &[u8]) -> Asked {
+    let chunk = beyond::read(raw_chunk)?;
+    let Some(slot) = slot_for(r, peer, chunk.request_id) else { return Ok(()) };
+    beyond::slot_takes(probe::slot(r, slot / probe::PEER_SLOTS, slot % probe::PEER_SLOTS), chunk)
 }
 
 /// "Own, unbound or idle record? 7. Transfer open with this id, or a free one? 6."

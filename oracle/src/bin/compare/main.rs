@@ -1,10 +1,10 @@
 //! Compares the port with the original: `compare SEED CASES RUNS PROGRAM`. All inputs of a function where they are few; else all
 //! that are short or at the boundaries, and then CASES random ones; then RUNS runs of calls on a table; then a tape for every
 //! tenth run through PROGRAM, which is `tape`. What the original lacks is compared with a reading of document 02; so is what
-//! K3 of that document turns down and the original does not, which is left out of the runs. It stops at the first difference. It
-//! fails too where an export is not compared, or never gave a refusal that it can give, where nothing was left out for one of
-//! K3's questions, or where a kind of line never came. `compare tapes SEED TAPES PROGRAM` compares tapes alone, `compare exports`
-//! prints the names of the exports that are compared.
+//! K3 of that document turns down and the original does not, but in a run what it turns down by what a slot holds. It stops at
+//! the first difference. It fails too where an export is not compared, or never gave a refusal that it can give, where nothing was
+//! left out for one of K3's questions, or where a kind of line never came. `compare tapes SEED TAPES PROGRAM` compares tapes alone,
+//! `compare exports` prints the names of the exports that are compared.
 mod port;
 mod runs;
 mod state;
@@ -92,7 +92,8 @@ fn compare_functions(seed: u64, cases: u64, summary: &mut Summary) -> Result<(),
 
 fn compare_runs(seed: u64, runs: u64, summary: &mut Summary) -> Result<(), String> {
     println!("{runs} runs of sixty calls, and more with lists of some 2,048 chunks, on tables of 0, 1, 2, 8 and 16 peers.");
-    println!("Left out, and made on neither side, are calls with a chunk that K3 turns down.");
+    println!("Left out are calls with a chunk that K3 turns down: by its own bytes (property byte, own count), and then they");
+    println!("are put to the port alone and compared with the reading; or by what its slot holds, and then to neither side.");
     runs::compare(seed, runs, summary)?;
     What::exports().for_each(|export| println!("{}", summary.line(export)));
     Ok(())

@@ -7,7 +7,7 @@ use oracle::call::{Tells, What, Written};
 use oracle::damage::is_sound;
 use oracle::layout::{HEADER_BYTES, MAX_SLOTS, TX_BYTES};
 use oracle::original;
-use oracle::outcome::Answer;
+use oracle::outcome::{Answer, Refusal};
 use oracle::random::runs::Script;
 use oracle::random::Rng;
 use oracle::run::{Call, Start, Told};
@@ -59,14 +59,15 @@ impl Sides {
 
 impl Pair<'_> {
     /// Puts a call to both sides; before that to the port alone with a damaged slot, where the call says so. A call with a chunk
-    /// that K3 turns down is put to neither side.
+    /// that K3 turns down by its own bytes is put to the port alone, and by what its slot holds to neither side.
     fn call(&mut self, call: &Call, summary: &mut Summary) -> Result<(), String> {
-        if let Some(beyond) = original::table::left_out(&self.original, call) {
+        if let Some((refusal, beyond)) = original::table::left_out(&self.original, call) {
             summary.leave_out(call.what.row().export, beyond);
-            return Ok(());
+            return if beyond.is_by_bytes() { self.call_refused(call, refusal, summary) } else { Ok(()) };
         }
-        if !call.damage.is_empty() {
-            self.call_damaged(call, summary).map_err(|difference| format!("with the damage, {difference}"))?;
+        if self.is_damaged(call) {
+            let refused = self.call_refused(call, Refusal { number: 31, value: 0 }, summary);
+            refused.map_err(|difference| format!("with the damage, {difference}"))?;
         }
         let (expected, written) = original::table::call(&mut self.original, call);
         if matches!(call.what, What::New) && expected.refusal == 0 {
@@ -84,23 +85,36 @@ impl Pair<'_> {
         Ok(())
     }
 
-    /// Puts a call to the port with the slot damaged that it reaches: it refuses with 31 and leaves all lent memory as it is. A
-    /// slot that is sound nevertheless is not tried.
-    fn call_damaged(&mut self, call: &Call, summary: &mut Summary) -> Result<(), String> {
-        let Some(slot) = original::table::reached(&self.original, call) else { return Ok(()) };
-        let table = &mut self.sides.table;
-        table.damage(slot, &call.damage);
-        if is_sound(table.slot_words(slot), table.slot_records(slot)) {
-            table.damage(slot, &call.damage);
-            return Ok(());
+    /// Damages the slot that a call reaches, where the call says so; and undoes it, done again.
+    fn damage(&mut self, call: &Call) {
+        if let Some(slot) = original::table::reached(&self.original, call) {
+            self.sides.table.damage(slot, &call.damage);
         }
-        let found = table.call(call);
-        if found != (Told { refusal: 31, value: 0, numbers: [0; 3] }) {
-            return Err(format!("the port answers {found:?}"));
+    }
+
+    /// Is that slot not sound then?
+    fn is_damaged(&mut self, call: &Call) -> bool {
+        if call.damage.is_empty() {
+            return false;
         }
-        table.damage(slot, &call.damage);
-        summary.count(call.what.row().export, Answer::Refused(31));
-        summary.bytes += table.outputs(&call.what, &Written::default())? + self.state()?;
+        let Some(slot) = original::table::reached(&self.original, call) else { return false };
+        self.damage(call);
+        let sound = is_sound(self.sides.table.slot_words(slot), self.sides.table.slot_records(slot));
+        self.damage(call);
+        !sound
+    }
+
+    /// Puts a call to the port alone, with the slot damaged where the call says so: it refuses, and leaves all lent memory as it
+    /// is. K3 turns a chunk down before question 31 is asked.
+    fn call_refused(&mut self, call: &Call, refusal: Refusal, summary: &mut Summary) -> Result<(), String> {
+        self.damage(call);
+        let found = self.sides.table.call(call);
+        self.damage(call);
+        if found != refusal.into() {
+            return Err(format!("it is to be refused with {}, and the port answers {found:?}", refusal.number));
+        }
+        summary.count(call.what.row().export, Answer::Refused(refusal.number));
+        summary.bytes += self.sides.table.outputs(&call.what, &Written::default())? + self.state()?;
         summary.bytes += state::compare_rooms(&self.sides.table, &self.original)?;
         Ok(())
     }

@@ -1,5 +1,5 @@
 //! Tapes through the program `tape`: its text is held against the lines of the same calls, made one by one through the exports,
-//! and these against the original's answers, as far as document 01's domain and K3 allow.
+//! and these against the original's answers, or K3's, as far as document 01's domain and what K3 asks of slots allow.
 mod program;
 mod seen;
 mod table;
@@ -44,17 +44,12 @@ fn difference(name: &str, expected: &str, found: &str) -> Result<(), String> {
     }
 }
 
-/// The original's lines; where it has none, the one of the exports.
-fn beside(by_original: &[Option<String>], lines: &[String]) -> String {
-    by_original.iter().zip(lines).map(|(by_original, line)| by_original.as_ref().unwrap_or(line).as_str()).collect()
-}
-
 /// Plays a tape on all sides.
 fn compare_one(program: &str, bytes: &[u8], pieces: &[usize], seen: &mut Seen) -> Result<(), String> {
     let tape = Tape::read(bytes);
     let lines = lines_of_exports(&tape, seen)?;
     let by_original = original::tape::lines(&tape);
-    difference("the original", &lines[..by_original.len()].concat(), &beside(&by_original, &lines))?;
+    difference("the original or K3", &lines[..by_original.lines.len()].concat(), &by_original.lines.concat())?;
     let text = lines.concat() + &tape.last_line();
     if bytes == EXAMPLE {
         difference("document 02", &text, EXAMPLE_LINES)?;

@@ -1,4 +1,5 @@
 //! What was compared of tapes: how many, and how often each kind of line came.
+use oracle::original::tape::Lines;
 use oracle::outcome::Answer;
 use oracle::run::Told;
 use oracle::tape::{Command, Tape, CODES, CUT_OFF, FEED, UNKNOWN};
@@ -14,9 +15,10 @@ const LAST: [Option<u8>; 3] = [Some(UNKNOWN), Some(CUT_OFF), None];
 pub struct Seen {
     pub tapes: u64,
     pub bytes: u64,
-    /// How many tapes the original played to their last command, and how many lines it gave.
+    /// How many tapes the original played to their last command, how many lines it gave, and how many the reading of K3.
     pub by_original: u64,
     pub lines_by_original: u64,
+    pub lines_by_reading: u64,
     lines: BTreeMap<(u8, Answer), u64>,
     last: BTreeMap<Option<u8>, u64>,
 }
@@ -42,12 +44,13 @@ impl Seen {
         *self.lines.entry((command.code(), command.answer(told))).or_default() += 1;
     }
 
-    /// A tape that was compared, with the lines that the original gave.
-    pub fn count_tape(&mut self, tape: &Tape, bytes: usize, by_original: &[Option<String>]) {
+    /// A tape that was compared, with the lines that the original and the reading gave.
+    pub fn count_tape(&mut self, tape: &Tape, bytes: usize, by_original: &Lines) {
         self.tapes += 1;
         self.bytes += bytes as u64;
-        self.by_original += u64::from(by_original.len() == tape.commands.len());
-        self.lines_by_original += by_original.iter().flatten().count() as u64;
+        self.by_original += u64::from(by_original.lines.len() == tape.commands.len());
+        self.lines_by_original += (by_original.lines.len() - by_original.by_reading) as u64;
+        self.lines_by_reading += by_original.by_reading as u64;
         *self.last.entry(tape.last).or_default() += 1;
     }
 
@@ -72,8 +75,8 @@ impl Seen {
         format!(
             "{lines}last lines: {last}\n\
              {} tapes, {} bytes, {commands} commands through the program and one by one through the exports, no difference;\n\
-             {} of them answered by the original too, {} tapes to their last command",
-            self.tapes, self.bytes, self.lines_by_original, self.by_original
+             {} of them answered by the original too, and {} by a reading of K3; {} tapes to their last command",
+            self.tapes, self.bytes, self.lines_by_original, self.lines_by_reading, self.by_original
         )
     }
 
