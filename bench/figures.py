@@ -7,17 +7,19 @@ import statistics
 ROOT = pathlib.Path(__file__).resolve().parent.parent
 MEASURED = ROOT / "target/bench"
 SIDES = ["port", "rust", "copies"]
+TAPE_SIDES = ["tape", "calls", "lines", "reading"]
 
 
 class Row:
-    """Of each side: nanoseconds of one operation, the median and the quickest turn; the port's time by it; instructions.
-    Each process has a line of them. Of a tape the sides are the program, the calls from C, and these with their lines."""
+    """Of each side: nanoseconds of one operation, the median and the quickest turn; the first side's time by it; instructions.
+    Each process has a line of them. The sides of a tape are the program, the calls from C, these with their lines, and reading alone."""
 
     def __init__(self, table, name, lines):
         self.table, self.name = table, name
+        self.sides = TAPE_SIDES if table == "tapes" else SIDES
         told = list(zip(*lines))
         self.median, self.quickest, self.by = (
-            dict(zip(SIDES, map(of, told[k::3]))) for k, of in enumerate([statistics.median, min, statistics.median])
+            dict(zip(self.sides, map(of, told[k::3]))) for k, of in enumerate([statistics.median, min, statistics.median])
         )
         self.count = {}
 
@@ -28,7 +30,7 @@ class Row:
         return self.by["rust"]
 
     def quickest_ratio(self, side="rust"):
-        return self.quickest["port"] / self.quickest[side]
+        return self.quickest[self.sides[0]] / self.quickest[side]
 
     def count_ratio(self):
         return self.count["port"] / self.count["rust"] if self.count else None
@@ -42,7 +44,7 @@ class Row:
 
     def tape_rate(self):
         """How many megabytes of a tape the program plays in a second."""
-        return int(self.name.split()[0]) / self.median["port"] * 1000
+        return int(self.name.split()[0]) / self.median["tape"] * 1e9
 
     def target(self):
         """The most that port / Rust may be, if anything."""

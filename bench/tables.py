@@ -70,14 +70,15 @@ def table(title, found):
 
 
 def tape_cells(row):
-    own = [row.label(), ms(row.median["port"]), f"{row.tape_rate():,.0f}"]
-    for side in ("rust", "copies"):
+    own = [row.label(), ms(row.median["tape"]), f"{row.tape_rate():,.0f}", ms(row.median["reading"])]
+    for side in ("calls", "lines"):
         own += [ms(row.median[side]), ratio(row.by[side]), ratio(row.quickest_ratio(side))]
     return own
 
 
 def tape_table(title, found):
-    head = ["", "tape", "MB/s", "calls from C", "tape / calls", "quickest", "calls and lines from C", "tape / these", "quickest"]
+    head = ["", "tape", "MB/s", "reading alone", "calls from C", "tape / calls", "quickest"]
+    head += ["calls and lines from C", "tape / these", "quickest"]
     return grid(title, head, [tape_cells(row) for row in found])
 
 

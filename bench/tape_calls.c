@@ -1,6 +1,7 @@
-/* tape_calls TAPE calls   reads a tape into a list, then makes its calls, and prints how many nanoseconds these took
- * tape_calls TAPE lines   the same, with the line of each call written into memory
- * tape_calls TAPE print   prints the lines */
+/* tape_calls calls <TAPE   reads a tape into a list, then makes its calls, and prints how many nanoseconds these took
+ * tape_calls lines <TAPE   the same, with the line of each call written into memory
+ * tape_calls print <TAPE   prints the lines
+ * tape_calls read <TAPE    only reads the tape, block by block */
 #define _POSIX_C_SOURCE 199309L
 #include "midici_pe.h"
 
@@ -9,9 +10,10 @@
 #include <stdlib.h>
 #include <string.h>
 #include <time.h>
+#include <unistd.h>
 
 #define LENT(a) a, sizeof a / sizeof *a
-enum { PEERS = 2, HEADER = 256, BODY = 4096, RECORDS = 64, LONGEST_LINE = 46 };
+enum { PEERS = 2, HEADER = 256, BODY = 4096, RECORDS = 64, LONGEST_LINE = 46, BLOCK = 131072 };
 
 static const midici_pe_shape shape = {PEERS, HEADER, BODY, RECORDS};
 static uint64_t numbers[MIDICI_PE_NUMBERS_LEN(PEERS)], fragments[MIDICI_PE_INDEX_LEN(PEERS, RECORDS)];
@@ -35,17 +37,25 @@ static void must(bool done, const char *what)
     exit(2);
 }
 
-/* The bytes of a file, and behind them room for the operands of one command that is cut off. */
-static uint8_t *read_file(const char *name, size_t *len)
+/* The bytes of a tape, and behind them room for the operands of one command that is cut off. */
+static uint8_t *read_bytes(size_t *len)
 {
-    FILE *file = fopen(name, "rb");
-    must(file != NULL && fseek(file, 0, SEEK_END) == 0, "the tape is not there");
-    *len = (size_t)ftell(file);
-    rewind(file);
+    must(fseek(stdin, 0, SEEK_END) == 0, "the tape is no file");
+    *len = (size_t)ftell(stdin);
+    rewind(stdin);
     uint8_t *bytes = calloc(*len + 15, 1);
-    must(bytes != NULL && fread(bytes, 1, *len, file) == *len, "the tape cannot be read");
-    fclose(file);
+    must(bytes != NULL && fread(bytes, 1, *len, stdin) == *len, "the tape cannot be read");
     return bytes;
+}
+
+static void read_blocks(void)
+{
+    static uint8_t block[BLOCK];
+    ssize_t got;
+    do
+        got = read(STDIN_FILENO, block, sizeof block);
+    while (got > 0);
+    must(got == 0, "the tape cannot be read");
 }
 
 /* A number with its low byte first. */
@@ -170,23 +180,23 @@ static double now_ns(void)
     return 1e9 * (double)t.tv_sec + (double)t.tv_nsec;
 }
 
-int main(int argc, char **argv)
+/* Makes the calls of a tape, with their lines or without, and prints the lines or the time. */
+static void play(bool lines, bool print)
 {
-    must(argc == 3, "usage: tape_calls TAPE calls, lines or print");
     size_t len, count;
-    uint8_t *tape = read_file(argv[1], &len);
+    uint8_t *tape = read_bytes(&len);
     command *commands = read_tape(tape, len, &count);
     char *text = malloc(count * LONGEST_LINE), *end = text;
     must(text != NULL, "no memory for the lines");
     must(midici_pe_new(shape, LENT(numbers), LENT(fragments), LENT(headers), LENT(arenas)).refusal == MIDICI_PE_OK,
          "no table");
     double begun = now_ns();
-    if (strcmp(argv[2], "calls") == 0)
-        make_calls(commands, count);
-    else
+    if (lines)
         end = make_lines(commands, count, text);
+    else
+        make_calls(commands, count);
     double taken = now_ns() - begun;
-    if (strcmp(argv[2], "print") == 0)
+    if (print)
         must(fwrite(text, 1, (size_t)(end - text), stdout) == (size_t)(end - text), "the output fails");
     else
         printf("%.0f\n", taken);
@@ -194,5 +204,17 @@ int main(int argc, char **argv)
     free(text);
     free(commands);
     free(tape);
+}
+
+int main(int argc, char **argv)
+{
+    const char *word = argc == 2 ? argv[1] : "";
+    bool print = strcmp(word, "print") == 0, lines = print || strcmp(word, "lines") == 0;
+    bool calls = lines || strcmp(word, "calls") == 0;
+    must(calls || strcmp(word, "read") == 0, "usage: tape_calls calls, lines, print or read, with a tape as its input");
+    if (calls)
+        play(lines, print);
+    else
+        read_blocks();
     return 0;
 }

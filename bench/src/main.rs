@@ -17,23 +17,19 @@ fn name(row: &Row) -> String {
     format!("{}\t{}", row.table, row.name)
 }
 
-fn is_chosen(row: &Row, part: &str) -> bool {
-    name(row).replace('\t', " ").contains(part)
-}
-
-fn times(part: &str) {
-    let mut time = |mut row: Row| {
-        if is_chosen(&row, part) {
-            println!("{}\t{}", name(&row), line(&measure::rounds(&mut row)));
-        }
-    };
-    rows::each(&mut time);
-    rows::each_of_processes(&mut time);
-}
-
-fn counts(part: &str) {
+fn times(is_chosen: impl Fn(&str, &str) -> bool) {
+    let time = |mut row: Row| println!("{}\t{}", name(&row), line(&measure::rounds(&mut row)));
     rows::each(|row| {
-        if is_chosen(&row, part) {
+        if is_chosen(row.table, &row.name) {
+            time(row);
+        }
+    });
+    rows::each_of_processes(is_chosen, time);
+}
+
+fn counts(is_chosen: impl Fn(&str, &str) -> bool) {
+    rows::each(|row| {
+        if is_chosen(row.table, &row.name) {
             count(row);
         }
     });
@@ -62,9 +58,10 @@ fn count(mut row: Row) {
 fn main() {
     let args: Vec<String> = std::env::args().collect();
     let part = args.get(2).map_or("", String::as_str);
+    let is_chosen = |table: &str, name: &str| format!("{table} {name}").contains(part);
     match args.get(1).map(String::as_str) {
-        Some("times") => times(part),
-        Some("counts") => counts(part),
+        Some("times") => times(is_chosen),
+        Some("counts") => counts(is_chosen),
         _ => panic!("usage: bench times [PART], or bench counts [PART]"),
     }
 }

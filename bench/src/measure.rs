@@ -2,14 +2,14 @@
 use crate::row::Row;
 
 const ROUNDS: usize = 41;
-/// How long a turn takes at least, unless it is prepared.
+/// How long a turn takes at least, unless it is one run.
 const TURN_NS: f64 = 50_000.0;
 
 /// Each side's nanoseconds for one operation.
 pub type Round = Vec<f64>;
 
 pub fn rounds(row: &mut Row) -> Vec<Round> {
-    let runs = if row.prepared { 1 } else { runs_for_a_turn(row) };
+    let runs = if row.one_run { 1 } else { runs_for_a_turn(row) };
     let operations = (runs * row.operations) as f64;
     (0..ROUNDS).map(|first| turns(row, first, runs).iter().map(|ns| ns / operations).collect()).collect()
 }

@@ -29,16 +29,16 @@ pub struct Row {
     pub name: String,
     /// How many operations one run is made of.
     pub operations: u64,
-    /// Is there something to go before each run?
-    pub prepared: bool,
+    /// Is a turn one run? Where something goes before each, or where one takes long enough.
+    pub one_run: bool,
     /// The port, the Rust, and where there is a body two copies of it, or one copy of a file. Of a tape: the program, the calls from
-    /// C, and these with their lines.
+    /// C, these with their lines, and the reading alone.
     pub sides: Vec<Box<dyn Side>>,
 }
 
 impl Row {
     pub fn new(table: &'static str, name: String, port: impl Side + 'static, rust: impl Side + 'static) -> Row {
-        Row { table, name, operations: 1, prepared: false, sides: vec![Box::new(port), Box::new(rust)] }
+        Row { table, name, operations: 1, one_run: false, sides: vec![Box::new(port), Box::new(rust)] }
     }
 
     /// Beside two copies of a body.

@@ -19,7 +19,7 @@ pub fn each(mut visit: impl FnMut(Row)) {
     headers::each(&mut visit);
 }
 
-/// Those whose sides are processes of their own.
-pub fn each_of_processes(mut visit: impl FnMut(Row)) {
-    tapes::each(&mut visit);
+/// Those whose sides are processes of their own, where table and name are chosen.
+pub fn each_of_processes(is_chosen: impl Fn(&str, &str) -> bool, mut visit: impl FnMut(Row)) {
+    tapes::each(is_chosen, &mut visit);
 }

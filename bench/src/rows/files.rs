@@ -29,7 +29,7 @@ fn dirt() -> Vec<u8> {
     bytes(&mut rng(), FILE).iter().map(|b| if *b == 0xF0 { 0 } else { *b }).collect()
 }
 
-fn row(name: String, file: &'static Vec<u8>) -> Row {
+fn row(name: String, file: &'static [u8]) -> Row {
     let read = read_by_rust(file);
     let (mut places, mut lengths) = (vec![0; read.places.len()], vec![0; read.lengths.len()]);
     let answer = port::syx_list(file, &mut places, &mut lengths);

@@ -28,7 +28,7 @@ pub fn each(visit: &mut impl FnMut(Row)) {
 fn row(lists: Lists, held: usize, answer: &str) -> Row {
     let port = Growing { table: port::Table::new(), lists, held };
     let rust = Growing { table: Reassembler::new(PEERS), lists, held };
-    Row { operations: SLOTS as u64, prepared: true, ..Row::new("growth", format!("{held}, {answer}"), port, rust) }
+    Row { operations: SLOTS as u64, one_run: true, ..Row::new("growth", format!("{held}, {answer}"), port, rust) }
 }
 
 /// The two tables as they are used here.

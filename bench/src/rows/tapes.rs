@@ -1,5 +1,6 @@
-//! A tape of 10 MB through the program `tape`, a process for each run; beside it the same calls, made by a C program from a list
-//! that it read before (bench/tape_calls.c), which times them itself: the calls alone, and with their lines.
+//! A tape of 10 MB through the program `tape`, a process for each run. Beside it a C program (bench/tape_calls.c), a process for
+//! each run too: what it times itself of the same calls, made from a list that it read before, alone and with their lines; and
+//! the whole process where it only reads the tape.
 use crate::inputs::{rng, seven_bit};
 use crate::row::{Row, Side};
 use midici_pe::chunker::split;
@@ -9,38 +10,50 @@ use std::fs::{self, File};
 use std::path::{Path, PathBuf};
 use std::process::{Command, Stdio};
 
-const BYTES: usize = 10_000_000;
+const TABLE: &str = "tapes";
+const MEGABYTES: usize = 10;
 const PEERS: [u32; 2] = [0x0123_4567, 0x0765_4321];
 /// A list is cancelled in so many turns of two lists.
 const CANCELLED_IN: u64 = 8;
 
-pub fn each(visit: &mut impl FnMut(Row)) {
-    [256, 4_096].into_iter().for_each(|max_sysex| visit(row(max_sysex)));
+/// The rows whose table and name are chosen: the others' tapes are not made.
+pub fn each(is_chosen: impl Fn(&str, &str) -> bool, visit: &mut impl FnMut(Row)) {
+    for max_sysex in [256, 4_096] {
+        let name = format!("{MEGABYTES} MB, lists cut at {max_sysex}");
+        if is_chosen(TABLE, &name) {
+            visit(row(name, max_sysex));
+        }
+    }
+}
+
+fn row(name: String, max_sysex: u32) -> Row {
+    let tape = written(max_sysex);
+    let program = Process { program: "target/programs/tape", word: None, tape: tape.clone() };
+    let from_c = |word| Process { program: "target/c/tape_calls", word: Some(word), tape: tape.clone() };
+    assert!(program.output() == from_c("print").output(), "the program and the C program print different lines");
+    let mut row = Row::new(TABLE, name, Whole(program), Timed(from_c("calls")));
+    row.one_run = true;
+    row.sides.push(Box::new(Timed(from_c("lines"))));
+    row.sides.push(Box::new(Whole(from_c("read"))));
+    row
 }
 
 fn root() -> &'static Path {
     Path::new(concat!(env!("CARGO_MANIFEST_DIR"), "/.."))
 }
 
-fn row(max_sysex: u32) -> Row {
+/// The file of a tape.
+fn written(max_sysex: u32) -> PathBuf {
     let tape = root().join(format!("target/bench/tape.{max_sysex}"));
-    let (bytes, commands) = received(max_sysex);
     fs::create_dir_all(tape.parent().expect("a folder")).expect("a folder for the tape");
-    fs::write(&tape, &bytes).expect("a tape");
-    let printed = output(&mut program(&tape));
-    assert!(printed == output(&mut calls(&tape, "print")), "the program and the C program print different lines");
-    let name = format!("{} bytes, {commands} commands, lists cut at {max_sysex}", bytes.len());
-    let lines = Calls { tape: tape.clone(), what: "lines" };
-    let mut row = Row::new("tapes", name, Program { tape: tape.clone() }, Calls { tape, what: "calls" });
-    row.prepared = true;
-    row.sides.push(Box::new(lines));
-    row
+    fs::write(&tape, received(max_sysex)).expect("a tape");
+    tape
 }
 
 /// A list of each of two peers at a time, their chunks shuffled together, a millisecond between them, and then a poll; in every
-/// eighth turn a third list begins and is cancelled. How many commands these are.
-fn received(max_sysex: u32) -> (Vec<u8>, usize) {
-    let (mut rng, mut bytes, mut now_ms, mut commands) = (rng(), Vec::new(), 0, 0);
+/// eighth turn a third list begins and is cancelled.
+fn received(max_sysex: u32) -> Vec<u8> {
+    let (mut rng, mut bytes, mut now_ms) = (rng(), Vec::new(), 0);
     for turn in 0.. {
         let mut turn = commands_of_a_turn(&mut rng, turn, max_sysex);
         turn.push(Played::Poll { now_ms: 0 });
@@ -49,12 +62,11 @@ fn received(max_sysex: u32) -> (Vec<u8>, usize) {
             set_time(command, now_ms);
             command.write(&mut bytes);
         }
-        commands += turn.len();
-        if bytes.len() >= BYTES {
+        if bytes.len() >= MEGABYTES * 1_000_000 {
             break;
         }
     }
-    (bytes, commands)
+    bytes
 }
 
 fn set_time(command: &mut Played, at: u64) {
@@ -82,49 +94,46 @@ fn fed(rng: &mut Rng, peer: u32, request_id: u8, max_sysex: u32) -> Vec<Played> 
     chunks.into_iter().map(|raw_chunk| Played::Feed { peer, now_ms: 0, raw_chunk }).collect()
 }
 
-fn program(tape: &Path) -> Command {
-    let mut command = Command::new(root().join("target/programs/tape"));
-    command.stdin(File::open(tape).expect("a tape"));
-    command
-}
-
-fn calls(tape: &Path, what: &str) -> Command {
-    let mut command = Command::new(root().join("target/c/tape_calls"));
-    command.arg(tape).arg(what);
-    command
-}
-
-fn output(command: &mut Command) -> String {
-    let output = command.output().expect("a program");
-    assert!(output.status.success(), "{command:?} ends with {}", output.status);
-    String::from_utf8(output.stdout).expect("lines")
-}
-
-/// The whole process, with the tape as its input; what it prints goes nowhere.
-struct Program {
+/// A program, its word where it takes one, and the tape that is its input.
+struct Process {
+    program: &'static str,
+    word: Option<&'static str>,
     tape: PathBuf,
 }
 
-impl Side for Program {
-    fn run(&mut self) {
-        let status = program(&self.tape).stdout(Stdio::null()).status().expect("a program");
-        assert!(status.success(), "the program ends with {status}");
+impl Process {
+    fn command(&self) -> Command {
+        let mut command = Command::new(root().join(self.program));
+        command.args(self.word).stdin(File::open(&self.tape).expect("a tape"));
+        command
+    }
+
+    fn output(&self) -> String {
+        let output = self.command().output().expect("a program");
+        assert!(output.status.success(), "{} ends with {}", self.program, output.status);
+        String::from_utf8(output.stdout).expect("lines")
     }
 }
 
-/// What the C program times of its own process.
-struct Calls {
-    tape: PathBuf,
-    what: &'static str,
+/// The whole process; what it prints goes nowhere.
+struct Whole(Process);
+
+impl Side for Whole {
+    fn run(&mut self) {
+        let status = self.0.command().stdout(Stdio::null()).status().expect("a program");
+        assert!(status.success(), "{} ends with {status}", self.0.program);
+    }
 }
 
-impl Side for Calls {
+/// What the process times of itself, and prints.
+struct Timed(Process);
+
+impl Side for Timed {
     fn run(&mut self) {
         self.turn(1);
     }
 
     fn turn(&mut self, runs: u64) -> f64 {
-        let one = |_| output(&mut calls(&self.tape, self.what)).trim().parse::<f64>().expect("nanoseconds");
-        (0..runs).map(one).sum()
+        (0..runs).map(|_| self.0.output().trim().parse::<f64>().expect("nanoseconds")).sum()
     }
 }
