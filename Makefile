@@ -10,7 +10,7 @@ export SEED CASES RUNS SECONDS PREFIX DESTDIR CC CXX CFLAGS LDFLAGS AR
 
 LIBRARY = target/lib/libmidici_pe.a
 OBJECTS = target/lib/hub.o target/lib/hub_message.o
-TAPE = target/bin/tape
+TAPE = target/programs/tape
 
 # The files of a crate and of those that it uses, but for the kit's.
 sources_of = $(shell find $(wildcard $(patsubst %,crates/%,$(shell sed -n 's/^$1:/$1/p' crates.txt))) -type d -name must-fail -prune -o -print)
@@ -35,7 +35,7 @@ edits:
 
 examples:
 	@.ci/program examples
-	@target/bin/examples
+	@target/programs/examples
 
 compare:
 	@.ci/values "the comparison" SEED CASES RUNS

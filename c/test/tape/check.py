@@ -2,6 +2,7 @@
 """check.py PROGRAM SEED: tries the program tape with the stored tape (tape.py) and with long ones, handed over in many ways."""
 import concurrent.futures
 import contextlib
+import itertools
 import os
 import pathlib
 import random
@@ -24,15 +25,19 @@ MEGABYTES = 64
 
 
 def same(what, wanted, came):
+    """Names the first line that differs."""
     if wanted != came:
-        sys.exit(f'Failed: {what}. Wanted, at the end: {wanted[-80:]!r}. Came: {came[-80:]!r}')
+        lines = itertools.zip_longest(wanted.splitlines(True), came.splitlines(True))
+        number, line, other = next((n, line, other) for n, (line, other) in enumerate(lines, 1) if line != other)
+        sys.exit(f'Failed: {what}. Line {number}: {line!r} was wanted, {other!r} came.')
 
 
 # ---- The program, and ways to hand it a tape ----
 
 @contextlib.contextmanager
 def started(given):
-    with subprocess.Popen([PROGRAM], bufsize=0, stdin=given, stdout=subprocess.PIPE) as process:
+    """What it says on standard error comes with its lines."""
+    with subprocess.Popen([PROGRAM], bufsize=0, stdin=given, stdout=subprocess.PIPE, stderr=subprocess.STDOUT) as process:
         try:
             yield process
         finally:
@@ -79,6 +84,7 @@ def from_bytes(given):
 def in_pieces(pieces):
     """Each piece is what one read gets: they are packets of a socket. What is printed has to fit into a pipe."""
     ours, its = socket.socketpair(socket.AF_UNIX, socket.SOCK_SEQPACKET)
+    ours.settimeout(SECONDS)
     with ours, started(its) as process:
         its.close()
         with contextlib.suppress(OSError):  # it reads nothing behind r36
@@ -126,6 +132,7 @@ def cut_from(begin, end, texts):
         file.write(TAPE[:begin])
         for length in range(begin, end):
             same(f'the stored tape cut behind {length} bytes', texts[length], from_file(file))
+            file.seek(length)
             file.write(TAPE[length:length + 1])
 
 
@@ -171,6 +178,17 @@ def command_of(length):
     return tape.feed(tape.A, 0, fed), '1 1' if len(fed) >= 9 else '1 2', f'a command of {length} bytes'
 
 
+def text_cut(steps, end):
+    """What commands print that are cut behind so many bytes."""
+    text = b''
+    for command, line, _ in steps:
+        if end < len(command):
+            break
+        end -= len(command)
+        text += line.encode('ascii') + b'\n'
+    return text + (b'r37\n' if end else b'')
+
+
 def try_across(block, place):
     """A longest command begins so many bytes before a block's end; others follow."""
     first = block - place
@@ -178,7 +196,9 @@ def try_across(block, place):
     steps = [command_of(length) for length in lengths] + [LONGEST] + EDGES + [LONGEST] * 3
     what = f'longest commands, the first {place} bytes before the end of {block}'
     same(what, tape.text(steps + EDGES), from_bytes(tape.played(steps + EDGES)))
-    same(f'{what}, the last one cut', tape.text(steps[:-1]) + b'r37\n', from_bytes(tape.played(steps)[:-1]))
+    given = tape.played(steps)
+    for end in (block, len(given) - 1):
+        same(f'{what}, cut behind {end}', text_cut(steps, end), from_bytes(given[:end]))
 
 
 def long_commands():
@@ -190,9 +210,37 @@ def long_commands():
 
 
 def short_commands():
-    """Their lines take more bytes than a block of commands."""
-    steps = [(tape.drop(tape.A), '3 0', '')] * 120000
+    """No command has a longer line for its bytes: the lines of a block take more bytes than the block."""
+    steps = [(tape.drop(tape.NO_PEER), '3 r28', 'no peer')] * 120000
     same('120,000 short commands', tape.text(steps), from_bytes(tape.played(steps)))
+
+
+# ---- Input and output that fail ----
+
+UNREAD = b'tape: standard input cannot be read\n'
+UNWRITTEN = b'tape: standard output cannot be written\n'
+
+
+def failing_input():
+    """No last line is printed: whether the tape ends there is not known."""
+    folder = os.open('/', os.O_RDONLY)
+    with started(folder) as process:
+        os.close(folder)
+        same('a folder as input', UNREAD, rest_of(process))
+    its, ours = os.pipe()
+    os.set_blocking(its, False)
+    os.write(ours, tape.poll(0) + tape.poll(0)[:-1])
+    with started(its) as process:
+        os.close(its)
+        same('a read that fails inside a command', b'4 0\n' + UNREAD, rest_of(process))
+    os.close(ours)
+
+
+def failing_output():
+    for what, given in ('a line', tape.poll(0)), ('the last line', tape.UNKNOWN), ('a line before the last', tape.poll(0) + tape.UNKNOWN):
+        with open('/dev/full', 'wb') as full:
+            ended = subprocess.run([PROGRAM], input=given, stdout=full, stderr=subprocess.PIPE, timeout=SECONDS, check=True)
+        same(f'{what} that cannot be written', UNWRITTEN, ended.stderr)
 
 
 # ---- Memory ----
@@ -253,7 +301,9 @@ def main():
           f'next command, cut at every byte, byte by byte, in {ROUNDS} other ways (seed {SEED}).', flush=True)
     long_commands()
     short_commands()
-    print(f'So it does the longest commands, wherever its blocks end; {same_memory()}.')
+    failing_input()
+    failing_output()
+    print(f'So it does the longest commands, wherever its blocks end; it says where its input or output fails; {same_memory()}.')
 
 
 main()

@@ -8,7 +8,9 @@ use lib.ListN.{length, set, length-set, length-append}
 use Rattle.seven_bit.specs.Parts.{put}
 use Rattle.seven_bit.proofs.PartLaws.{put-one, put-put}
 use Rattle.pe_tape.specs.Number.{decimal}
-use Rattle.pe_tape.specs.Line.{Shown, marked, whole, shownText, lineText}
+use Rattle.pe_tape.specs.Line.{Shown, marked, whole, shownText, lineText, endText}
+use Rattle.pe_tape.specs.declared.error.TapeError.{TapeError}
+use Rattle.pe_tape.specs.Told.{tapeNumber, tapeRefused}
 use Rattle.pe_tape.proofs.NumberLaws.{decimal-one, decimal-more, decimal-length}
 
 -- a byte behind a text
@@ -97,3 +99,17 @@ line-put out middle at kind end s h e f =
     ∙ put-behind (set (set out at (48 + kind)) (at + 1) 32) (at + 2) (shownText s) end 10 f
     ∙ two-front out at (48 + kind) 32 (shownText s ++ (10 ∷ []))
     ∙ ap (λ (d : List ℕ). put out at (d ++ (32 ∷ (shownText s ++ (10 ∷ []))))) (sym (decimal-one kind h))
+
+-- the last line: a refusal's number, and the line's end
+pub last-put : (e : TapeError) (out middle : List ℕ) (n end : ℕ) → n ≡ tapeNumber e → middle ≡ put out 0 (shownText (marked n))
+    → end ≡ 0 + length (shownText (marked n))
+    → (set middle end 10 ≡ put out 0 (endText (tapeRefused e))) × (end + 1 ≡ length (endText (tapeRefused e)))
+unfolding endText
+last-put e out middle n end n= m= e= =
+    let text : shownText (marked n) ++ (10 ∷ []) ≡ shownText (marked (tapeNumber e)) ++ (10 ∷ []) =
+    ap (λ (k : ℕ). shownText (marked k) ++ (10 ∷ [])) n= in
+    let long : length (shownText (marked n) ++ (10 ∷ [])) ≡ length (shownText (marked n)) + 1 = length-append (shownText (marked n)) (10 ∷ []) in
+    let all : length (shownText (marked n) ++ (10 ∷ [])) ≡ length (shownText (marked (tapeNumber e)) ++ (10 ∷ [])) = ap length text in (
+      ap (λ (o : List ℕ). set o end 10) m= ∙ put-behind out 0 (shownText (marked n)) end 10 e= ∙ ap (put out 0) text,
+      omega (arith, long, all, e=),
+    )

@@ -20,7 +20,6 @@ use Rattle.pe_reassembler.specs.Feed.{Memory}
 use Rattle.pe_tape.specs.declared.command.Command.{Command as TapeCommand}
 use Rattle.pe_tape.specs.declared.command.Command.the-variants.{Feed, Cancel, Drop, Poll}
 use Rattle.pe_tape.specs.declared.error.TapeError.{TapeError}
-use Rattle.pe_tape.specs.declared.error.TapeError.the-variants.{UnknownCommand, CutOff, Pe}
 use Rattle.pe_tape.specs.declared.play.Step.{Step}
 use Rattle.pe_tape.specs.declared.play.Stop.{Stop}
 use Rattle.pe_tape.specs.Command.{Taken, readCommand}
@@ -56,9 +55,7 @@ step-went m after p out out′ written behind kind s h e k b o =
 
 -- a command that is not read
 pub step-refused : (m : Memory) (e : TapeError) (out : List ℕ) (written : ℕ) → stepLeft (halted (tapeRefused e)) m out ≡ playStep m (tapeRefused e) out written
-step-refused m UnknownCommand out written = refl
-step-refused m CutOff out written = refl
-step-refused m (Pe e) out written = refl
+step-refused m e out written = refl
 
 -- ---- between two steps
 -- the text so far, in front of what playing the rest gives, is what playing the whole gives

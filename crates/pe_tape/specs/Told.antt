@@ -9,7 +9,7 @@ use lib.Dec.{leb}
 use lib.ListN.{length}
 use Rattle.seven_bit.specs.Parts.{part}
 use Rattle.seven_bit.specs.Reply.{Reply, granted, refused, _else_then_}
-use Rattle.pe_wire.specs.Errors.{peNumber, peRefused}
+use Rattle.pe_wire.specs.Errors.{peNumber, peValue, peRefused}
 use Rattle.pe_tape.specs.declared.command.Command.{Command as TapeCommand}
 use Rattle.pe_tape.specs.declared.command.Command.the-variants.{Feed, Cancel, Drop, Poll}
 use Rattle.pe_tape.specs.declared.error.TapeError.{TapeError}
@@ -22,16 +22,21 @@ use Rattle.pe_tape.specs.declared.play.Stop.{Stop}
 use Rattle.pe_tape.specs.Command.{Command, feed, cancel, drop-peer, poll, Taken, writeCommand}
 use Rattle.pe_tape.specs.Line.{Shown, bare, marked, whole}
 
--- The number of each refusal.
+-- The number of each refusal,
 abbrev pub tapeNumber : TapeError → ℕ
 tapeNumber UnknownCommand = 36
 tapeNumber CutOff = 37
 tapeNumber (Pe e) = peNumber e
 
+-- its value,
+abbrev pub tapeValue : TapeError → ℕ
+tapeValue UnknownCommand = 0
+tapeValue CutOff = 0
+tapeValue (Pe e) = peValue e
+
+-- and the answer with both.
 abbrev pub tapeRefused : {A : Type 0} → TapeError → Reply A
-tapeRefused UnknownCommand = refused 36 0
-tapeRefused CutOff = refused 37 0
-tapeRefused (Pe e) = peRefused e
+tapeRefused e = refused (tapeNumber e) (tapeValue e)
 
 -- A command with its chunk, which lies in the bytes that go with it.
 abbrev pub commandOf : List ℕ → TapeCommand → Command

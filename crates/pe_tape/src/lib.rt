@@ -1,7 +1,7 @@
 // Tapes of what a hub received: their commands read and written, and played on a table.
 pub mod command;
 pub mod error;
-mod line;
+pub mod line;
 mod operand;
 pub mod play;
 pub mod read;

@@ -1,11 +1,12 @@
 // The text of a line.
+use crate::error::TapeError;
 ghost use mathlib.Core.Path.{_≡_};
 ghost use Prim.Native.Nat.{_+_, _≤_, _<_};
-ghost use lib.ListN.{length};
+ghost use lib.ListN.{length, replicate};
 ghost use Rattle.seven_bit.specs.Parts.{put};
 ghost use Rattle.pe_tape.specs.Number.{decimal};
-ghost use Rattle.pe_tape.specs.Line.{marked, whole, shownText, lineText};
-ghost use Rattle.pe_tape.specs.Told.{shownTold};
+ghost use Rattle.pe_tape.specs.Line.{marked, whole, shownText, lineText, endText};
+ghost use Rattle.pe_tape.specs.Told.{shownTold, tapeRefused};
 
 // The most bytes of a line: `1 w `, two numbers of 64 bits with a space between them, and the line's end.
 pub const LINE_LEN: usize = 46;
@@ -74,4 +75,24 @@ pub(crate) fn put_line(out: &mut [u8], at: usize, kind: u8, shown: Shown) -> usi
     let end = put_shown(out, at + 2, shown);
     out[end] = b'\n';
     end + 1
+}
+
+// A line of at most 22 bytes: an r, a number of 64 bits, the line's end.
+pub struct LastLine {
+    pub bytes: [u8; 22],
+    pub len: usize,
+}
+
+// The last line of a tape that is not played to its end.
+pub fn last_line(e: TapeError) -> LastLine
+    ensures { λ r. ⌜ (r .bytes ≡ put (replicate 22 0) 0 (endText (tapeRefused e))) × (r .len ≡ length (endText (tapeRefused e))) ⌝ }
+    ensures { λ r. ⌜ r .len ≤ length (r .bytes) ⌝ }
+{
+    let mut bytes = [0u8; 22];
+    let end = put_marked(&mut bytes, 0, e.number());
+    bytes[end] = b'\n';
+    LastLine {
+        bytes,
+        len: end + 1,
+    }
 }

@@ -1,11 +1,17 @@
 -- What a block leaves for the next one.
 -- Assumes nothing.
-use Prim.Native.Nat.{ℕ, _-_, _≤_}
+use Prim.Native.Nat.{ℕ, _+_, _-_, _≤_}
 use mathlib.Core.List.{List}
 use mathlib.Core.Path.{_≡_}
 use lib.ListN.{length}
 use Rattle.seven_bit.specs.Parts.{part, put}
+use Rattle.tape.specs.declared.Came.{Came}
 use Rattle.tape.specs.declared.Turn.{Turn}
+
+-- What came lies in the block, behind the bytes that were there.
+abbrev pub InBlock : List ℕ → ℕ → Came → Type 0
+InBlock block have (Came.Bytes n) = have + n ≤ length block
+InBlock block have Came.Failed = Unit {0}
 
 -- The bytes from one place up to another, at the block's front.
 abbrev pub moved : List ℕ → ℕ → ℕ → List ℕ

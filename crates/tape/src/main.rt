@@ -5,13 +5,14 @@ use libc::STDIN_FILENO;
 use libc::STDOUT_FILENO;
 use pe_reassembler::calls::new;
 use pe_tape::error::TapeError;
+use pe_tape::line::last_line;
 use pe_tape::play::SHAPE;
 use pe_tape::play::Stop;
 use pe_tape::play::play;
 ghost use Prim.Native.Nat.{_+_, _≤_};
 ghost use mathlib.Core.Path.{_≡_};
 ghost use lib.ListN.{length};
-ghost use Rattle.tape.specs.Rest.{moved, Kept, Within};
+ghost use Rattle.tape.specs.Rest.{InBlock, moved, Kept, Within};
 
 // What playing a block leaves at the block's front to be played, or that the play is over.
 enum Turn {
@@ -19,20 +20,26 @@ enum Turn {
     Over,
 }
 
+// What a read brought: so many bytes, none where the input ends or the block is full; or that it failed.
+enum Came {
+    Bytes(usize),
+    Failed,
+}
+
 fn complain(text: &[u8]) {
     io::write_all(STDERR_FILENO, text);
 }
 
-// Reads once, behind the bytes that are there: how many came. None come at the input's end, where the block is full, and where it cannot be read.
-fn read_behind(block: &mut [u8], have: usize) -> usize
+// Reads once, behind the bytes that are there.
+fn read_behind(block: &mut [u8], have: usize) -> Came
     requires { ⌜ have ≤ length (now block) ⌝ }
-    ensures { λ r. ⌜ have + r ≤ length (now (block .entry)) ⌝ }
+    ensures { λ r. ⌜ InBlock (now (block .entry)) have r ⌝ }
 {
     let got = libc::read(STDIN_FILENO, &mut block[have..]);
     if got < 0 {
-        complain(b"tape: standard input cannot be read\n");
+        return Came::Failed;
     }
-    io::count(got, &block[have..])
+    Came::Bytes(io::count(got, &block[have..]))
 }
 
 // Moves the bytes from one place up to another to the block's front.
@@ -47,10 +54,20 @@ fn keep_rest(block: &mut [u8], from: usize, to: usize)
     }
 }
 
+// Writes text, or says that it can't.
+fn print(text: &[u8]) -> bool {
+    if io::write_all(STDOUT_FILENO, text) {
+        return true;
+    }
+    complain(b"tape: standard output cannot be written\n");
+    false
+}
+
 fn print_last(e: TapeError) {
-    io::write_all(STDOUT_FILENO, b"r");
-    io::print_decimal(STDOUT_FILENO, e.number() as u64);
-    io::write_all(STDOUT_FILENO, b"\n");
+    let last = last_line(e);
+    let bytes = last.bytes;
+    let len = last.len;
+    print(&bytes[..len]);
 }
 
 // An unknown command ends the play; one that is cut off does where no more bytes come.
@@ -96,7 +113,10 @@ fn play_block(
     requires { ⌜ have ≤ length (now block) ⌝ }
     ensures { λ r. ⌜ Within (now (block .entry)) r ⌝ }
 {
-    let got = read_behind(block, have);
+    let Came::Bytes(got) = read_behind(block, have) else {
+        complain(b"tape: standard input cannot be read\n");
+        return Turn::Over;
+    };
     let len = have + got;
     let progress = play(
         &block[..len],
@@ -109,8 +129,7 @@ fn play_block(
         out,
     );
     let written = progress.written;
-    if !io::write_all(STDOUT_FILENO, &out[..written]) {
-        complain(b"tape: standard output cannot be written\n");
+    if !print(&out[..written]) {
         return Turn::Over;
     }
     go_on(
