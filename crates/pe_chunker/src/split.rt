@@ -1,7 +1,7 @@
 // All chunks of a list in one call.
 use crate::ChunkCount;
 use crate::chunk_count;
-use crate::put_piece;
+use crate::piece::put_piece;
 use pe_frame::frame::PE_FRAMING_LEN;
 use pe_wire::error::PeError;
 ghost use mathlib.Core.List.{map};

@@ -1,6 +1,6 @@
 use borrow.Author.Needs.{needs}
-use Rattle.pe_chunker.proofs.put_piece.Statement.{statement}
-use Rattle.pe_chunker.proofs.put_piece.Tie as tie
+use Rattle.pe_chunker.proofs.piece.put_piece.Statement.{statement}
+use Rattle.pe_chunker.proofs.piece.put_piece.Tie as tie
 use mathlib.Core.List.{List}
 use mathlib.Core.Path.{_≡_, sym, ap, _∙_}
 use Prim.Native.Nat.{ℕ, _+_, _-_, _≤_}

@@ -1,5 +1,5 @@
-use Rattle.pe_chunker.proofs.header_part.Statement.{statement}
-use Rattle.pe_chunker.proofs.header_part.Tie as tie
+use Rattle.pe_chunker.proofs.piece.header_part.Statement.{statement}
+use Rattle.pe_chunker.proofs.piece.header_part.Tie as tie
 use borrow.Author.Tests.{eq-eqb, ne-eqb}
 
 returns : tie.Need-returns

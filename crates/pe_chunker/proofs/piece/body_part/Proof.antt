@@ -1,8 +1,8 @@
 use Prim.Native.Nat.{_*_, _≤_}
 use native.Mathlib.Omega.{arith}
 use borrow.Author.Needs.{needs}
-use Rattle.pe_chunker.proofs.body_part.Statement.{statement}
-use Rattle.pe_chunker.proofs.body_part.Tie as tie
+use Rattle.pe_chunker.proofs.piece.body_part.Statement.{statement}
+use Rattle.pe_chunker.proofs.piece.body_part.Tie as tie
 use native.Mathlib.Nat.{mul-le-mul}
 
 mul-room : tie.Need-mul-room
