@@ -20,8 +20,9 @@ fn chunks() {
     chunk_reads(b"last byte gone:", &frame[0..10]);
     let second = [5u8, 1, 0, 0x7B, 2, 0, 2, 0, 0, 0];
     chunk_reads(b"chunk 05 01 00 7B 02 00 02 00 00 00:", &second);
-    let number_0 = [5u8, 0, 0, 1, 0, 0, 0, 1, 0, 0xFF];
-    chunk_reads(b"chunk 05 00 00 01 00 00 00 01 00 FF:", &number_0);
+    // Number 0 is the slot's question; since K3 the property's byte is turned down before.
+    let high_property = [5u8, 0, 0, 1, 0, 0, 0, 1, 0, 0xFF];
+    chunk_reads(b"chunk 05 00 00 01 00 00 00 01 00 FF:", &high_property);
 }
 
 fn main() {

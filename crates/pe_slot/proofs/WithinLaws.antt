@@ -1,4 +1,4 @@
--- No slot holds a number above its count (document 02, K3), whatever chunks are fed to it.
+-- No slot holds a number above its count (document 02, K3), whatever chunks within their own count are fed to it: those that a reader gives.
 -- Assumes nothing.
 use Prim.Native.Nat.{ℕ, _+_}
 use mathlib.Core.Bool.{Bool, true, false, cond, not, _&&_, _||_}

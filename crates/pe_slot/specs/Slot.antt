@@ -49,7 +49,7 @@ unfoldable pub inOrder : List Piece → List Piece → List Piece
 inOrder sorted [] = sorted
 inOrder sorted (p ∷ ps) = inOrder (insert p sorted) ps
 
--- "The joined body follows frame numbers, frames above the count included."
+-- "The joined body follows frame numbers, frames above the count included." (Since K3 calls leave none of these in a slot.)
 unfoldable pub bodyOf : List Piece → List ℕ
 bodyOf ps = joined (map (λ (p : Piece). p .bytes) (inOrder [] ps))
 
@@ -171,7 +171,8 @@ judge H B R s c =
     leb (bodyLen (s .pieces) + length (c .property)) B otherwise closing 5 then
     passed (afterChunk s c (newHeader s c) (newCount s c) true)))
 
--- Is every number that is held within the count, where that is known? A law says that each slot keeps this (proofs/WithinLaws).
+-- Is every number that is held within the count, where that is known? A law says that each slot keeps this by chunks that are
+-- within their own count (proofs/WithinLaws).
 unfoldable pub allWithin : Slot → Bool
 allWithin s = eqb (s .count) 0 || heldWithin (s .count) (s .pieces)
 
