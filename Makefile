@@ -95,7 +95,7 @@ test-c:
 	@c/at-hand Cannot-run "the C tests"
 	@$(MAKE) -s tested-c
 
-tested-c: target/c/readme target/c/exports target/c/week target/c/bodies target/c/answers $(TAPE)
+tested-c: target/c/readme target/c/exports target/c/week target/c/bodies target/c/answers target/c/tape_calls $(TAPE)
 	@c/test/header
 	@target/c/exports $(SEED)
 	@target/c/week >target/c/week.log || { cat target/c/week.log; exit 1; }

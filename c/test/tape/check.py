@@ -1,5 +1,6 @@
 #!/usr/bin/env python3
-"""check.py PROGRAM SEED: tries the program tape with the stored tape (tape.py) and with long ones, handed over in many ways."""
+"""check.py PROGRAM CALLS SEED: tries the program tape with the stored tape (tape.py) and with long ones, handed over in many ways. CALLS is a
+program that makes a tape's calls one by one (bench/tape_calls.c)."""
 import concurrent.futures
 import contextlib
 import itertools
@@ -16,7 +17,7 @@ import threading
 
 import tape
 
-PROGRAM, SEED = sys.argv[1], int(sys.argv[2])
+PROGRAM, CALLS, SEED = sys.argv[1], sys.argv[2], int(sys.argv[3])
 STORED = pathlib.Path(__file__).resolve().parents[3] / 'crates' / 'tape'
 TAPE, TEXT = tape.stored_files().values()
 ROUNDS = 40
@@ -100,6 +101,15 @@ def stored_files():
     for name, contents in tape.stored_files().items():
         if (STORED / name).read_bytes() != contents:
             sys.exit(f'Failed: crates/tape/{name} is not what `python3 c/test/tape/tape.py crates/tape` writes.')
+
+
+def same_calls():
+    """A C program that makes the same calls one by one prints the same lines."""
+    with tempfile.TemporaryFile(buffering=0) as file:
+        file.write(tape.played(tape.STORED))
+        file.seek(0)
+        ended = subprocess.run([CALLS, 'print'], stdin=file, stdout=subprocess.PIPE, timeout=SECONDS, check=True)
+    same('the calls of the stored tape, from C', tape.text(tape.STORED), ended.stdout)
 
 
 def as_they_come(ahead):
@@ -292,13 +302,14 @@ def same_memory():
 
 def main():
     stored_files()
+    same_calls()
     as_they_come(0)
     as_they_come(1)
     in_many_pieces()
     short_tapes()
     cut_everywhere()
-    print(f'tape plays the stored tape ({len(tape.STORED)} commands, {len(TAPE):,} bytes) as documents 01 and 02 say: each line before the '
-          f'next command, cut at every byte, byte by byte, in {ROUNDS} other ways (seed {SEED}).', flush=True)
+    print(f'tape plays the stored tape ({len(tape.STORED)} commands, {len(TAPE):,} bytes) as documents 01 and 02 say and as calls from C '
+          f'answer: each line before the next command, cut at every byte, byte by byte, in {ROUNDS} other ways (seed {SEED}).', flush=True)
     long_commands()
     short_commands()
     failing_input()
