@@ -1,6 +1,6 @@
 -- "Replay equals making the same calls one by one", however the tape is cut into blocks and whatever room is lent for its lines.
 -- Assumes nothing.
-use Prim.Native.Nat.{ℕ, zero, suc, _+_, _-_, _≤_, _<_, zero-le}
+use Prim.Native.Nat.{ℕ, zero, suc, _+_, _-_, _≤_, _<_}
 use mathlib.Core.Bool.{Bool, true, false}
 use mathlib.Core.List.{List, [], _∷_, _++_, append-nil, append-assoc}
 use mathlib.Core.Logic.{_⊎_, inl, inr}
@@ -20,7 +20,7 @@ use Rattle.pe_tape.specs.Command.{Taken, chunkLen, readFeed, readCancel,
 use Rattle.pe_tape.specs.Tape.{Tape, ended, withCommand, tapeOf, Ends, followedBy}
 use Rattle.pe_tape.specs.Line.{lineLen, endText}
 use Rattle.pe_tape.specs.Play.{makeCall, lineOf, Played, stopped, before, playBytes}
-use Rattle.pe_tape.specs.Replay.{memoryAfter, linesOf, textOf, Stops, PlaysAll, Block, playBlocks, bytesOf}
+use Rattle.pe_tape.specs.Replay.{memoryAfter, linesOf, textOf, memoryOf, Stops, PlaysAll, Block, playBlocks, memoryBlocks, bytesOf}
 use Rattle.pe_tape.proofs.PlayLaws.{by-kind, read-len, read-none, tape-next, tape-end, tape-refused}
 use Rattle.pe_tape.proofs.PlayLaws.{play-next, play-full, play-end, play-refused}
 
@@ -199,13 +199,23 @@ play-on m xs ys room =
         ∙ ap (λ (x : List ℕ). lineOf m (t .command) ++ x) below
         ∙ rw (drop-drop (p .used) (t .len) s, append-assoc)
 
-pub used-within : (m : Memory) (xs : List ℕ) (room : ℕ) → playBytes m xs room .used ≤ length xs
-used-within =
-    by-play (λ (m : Memory) (s : List ℕ) (room : ℕ) (p : Played). p .used ≤ length s)
-    (λ (m : Memory) (s : List ℕ) (room : ℕ) (stop : Reply ℕ) (h : Stops s room stop). zero-le)
+-- the same of the table
+memory-next : (m : Memory) (s : List ℕ) (t : Taken) → readCommand s ≡ granted (some t) → memoryOf m s ≡ memoryOf (makeCall m (t .command) .memory) (drop (t .len) s)
+unfolding memoryAfter
+memory-next m s t e = rw (tape-next s t e)
+
+pub memory-on : (m : Memory) (xs ys : List ℕ) (room : ℕ)
+    → memoryOf m (xs ++ ys) ≡ memoryOf (playBytes m xs room .memory) (drop (playBytes m xs room .used) xs ++ ys)
+memory-on m xs ys room =
+    by-play (λ (m : Memory) (s : List ℕ) (room : ℕ) (p : Played). memoryOf m (s ++ ys) ≡ memoryOf (p .memory) (drop (p .used) s ++ ys))
+    (λ (m : Memory) (s : List ℕ) (room : ℕ) (stop : Reply ℕ) (h : Stops s room stop). ap (λ (l : List ℕ). memoryOf m (l ++ ys)) (sym (drop-none s)))
     (λ (m : Memory) (s : List ℕ) (room : ℕ) (t : Taken) (p : Played) (e : readCommand s ≡ granted (some t)) (h : lineLen ≤ room)
-    (below : p .used ≤ length (drop (t .len) s)).
-    omega (arith, read-len s t e, length-drop (t .len) s))
+    (below : memoryOf (makeCall m (t .command) .memory) (drop (t .len) s ++ ys) ≡ memoryOf (p .memory) (drop (p .used) (drop (t .len) s) ++ ys)).
+    memory-next m (s ++ ys) t (read-front s ys t e)
+    ∙ ap (memoryOf (makeCall m (t .command) .memory)) (drop-append-le (t .len) s ys (read-len s t e .1))
+    ∙ below
+    ∙ ap (λ (l : List ℕ). memoryOf (p .memory) (l ++ ys)) (drop-drop (p .used) (t .len) s))
+    m xs room
 
 -- ---- why it stops
 pub stops : (m : Memory) (xs : List ℕ) (room : ℕ)
@@ -259,6 +269,15 @@ by-blocks m rest (b ∷ bs) =
     ap (λ (l : List ℕ). p .text ++ l) (by-blocks (p .memory) (drop (p .used) (rest ++ b .bytes)) bs)
     ∙ sym (play-on m (rest ++ b .bytes) (bytesOf bs) (b .room))
     ∙ ap (textOf m) (append-assoc rest (b .bytes) (bytesOf bs))
+
+pub memory-by-blocks : (m : Memory) (rest : List ℕ) (bs : List Block) → memoryBlocks m rest bs ≡ memoryOf m (rest ++ bytesOf bs)
+unfolding memoryBlocks bytesOf
+memory-by-blocks m rest [] = rw (append-nil rest)
+memory-by-blocks m rest (b ∷ bs) =
+    let p = playBytes m (rest ++ b .bytes) (b .room) in
+    memory-by-blocks (p .memory) (drop (p .used) (rest ++ b .bytes)) bs
+    ∙ sym (memory-on m (rest ++ b .bytes) (bytesOf bs) (b .room))
+    ∙ ap (memoryOf m) (append-assoc rest (b .bytes) (bytesOf bs))
 
 -- ---- all of a tape is played where there is room
 plays-all : (m : Memory) (s : List ℕ) (p : Played) (u : Tape) → tapeOf s ≡ u → p .memory ≡ memoryAfter m (u .commands)

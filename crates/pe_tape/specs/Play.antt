@@ -29,7 +29,11 @@ called shown m = record { shown = shown; memory = m }
 abbrev pub renumbered : Memory → List ℕ → Memory
 renumbered m numbers = memory numbers (m .index) (m .headers) (m .arenas) (m .out-header) (m .out-body)
 
--- The call that a command stands for, by the definition that its contract cites. A poll's columns have the 8 places that it asks for.
+-- A poll's column, with the 8 places that it asks for.
+abbrev pub column : List ℕ
+column = replicate 8 0
+
+-- The call that a command stands for, by the definition that its contract cites.
 unfoldable pub makeCall : Memory → Command → Called
 makeCall m (feed peer now-ms chunk) =
     let r = feedCall tapeShape m peer chunk now-ms in
@@ -41,7 +45,7 @@ makeCall m (drop-peer peer) =
     let r = dropCall tapeShape (m .numbers) peer in
     called (countShown (r .answer)) (renumbered m (r .numbers))
 makeCall m (poll now-ms) =
-    let r = pollCall tapeShape (m .numbers) now-ms (replicate 8 0) (replicate 8 0) in
+    let r = pollCall tapeShape (m .numbers) now-ms column column in
     called (countShown (r .answer)) (renumbered m (r .numbers))
 
 abbrev pub kindOf : Command → ℕ

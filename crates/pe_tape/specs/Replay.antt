@@ -26,6 +26,10 @@ linesOf m (c ∷ cs) = lineOf m c ++ linesOf (makeCall m c .memory) cs
 unfoldable pub textOf : Memory → List ℕ → List ℕ
 textOf m s = linesOf m (tapeOf s .commands) ++ endText (tapeOf s .end)
 
+-- The memory after a tape's commands.
+abbrev pub memoryOf : Memory → List ℕ → Memory
+memoryOf m s = memoryAfter m (tapeOf s .commands)
+
 -- What `new` leaves of memory.
 abbrev pub started : Memory → Memory
 started m =
@@ -58,6 +62,13 @@ playBlocks m rest [] = textOf m rest
 playBlocks m rest (b ∷ bs) =
     let p = playBytes m (rest ++ b .bytes) (b .room) in
     p .text ++ playBlocks (p .memory) (drop (p .used) (rest ++ b .bytes)) bs
+
+-- and the table that is left then.
+unfoldable pub memoryBlocks : Memory → List ℕ → List Block → Memory
+memoryBlocks m rest [] = memoryOf m rest
+memoryBlocks m rest (b ∷ bs) =
+    let p = playBytes m (rest ++ b .bytes) (b .room) in
+    memoryBlocks (p .memory) (drop (p .used) (rest ++ b .bytes)) bs
 
 unfoldable pub bytesOf : List Block → List ℕ
 bytesOf [] = []

@@ -2,7 +2,6 @@
 -- Assumes nothing.
 use Prim.Native.Nat.{ℕ}
 use mathlib.Core.List.{List, [], _∷_, _++_}
-use lib.ListN.{replicate}
 use Rattle.pe_reassembler.specs.Feed.{Memory, feedCall}
 use Rattle.pe_reassembler.specs.Calls.{cancelCall, dropCall}
 use Rattle.pe_reassembler.specs.Poll.{pollCall}
@@ -10,18 +9,18 @@ use Rattle.pe_run.specs.Calls.{Call, Answer, fed, was-open, counted, timed-out,
 use Rattle.pe_run.specs.Run.{Table, table, feedTold}
 use Rattle.pe_tape.specs.Command.{Command, feed, cancel, drop-peer, poll}
 use Rattle.pe_tape.specs.Line.{feedShown, cancelShown, countShown, lineText}
-use Rattle.pe_tape.specs.Play.{tapeShape, makeCall}
+use Rattle.pe_tape.specs.Play.{tapeShape, column, makeCall}
 
 -- Memory without the outputs of a feed.
 abbrev pub tableOf : Memory → Table
 tableOf m = table (m .numbers) (m .index) (m .headers) (m .arenas)
 
--- The call of a command. A feed is lent the outputs that memory holds then, a poll two columns of 8 places.
+-- The call of a command. A feed is lent the outputs that memory holds then, a poll two columns.
 abbrev pub callOf : Memory → Command → Call
 callOf m (feed peer now-ms chunk) = Call.feed peer chunk now-ms (m .out-header) (m .out-body)
 callOf m (cancel peer request-id) = Call.cancel peer request-id
 callOf m (drop-peer peer) = Call.drop-peer peer
-callOf m (poll now-ms) = Call.poll now-ms (replicate 8 0) (replicate 8 0)
+callOf m (poll now-ms) = Call.poll now-ms column column
 
 -- Its answer.
 abbrev pub answerOf : Memory → Command → Answer
@@ -29,7 +28,7 @@ answerOf m (feed peer now-ms chunk) = feedTold (feedCall tapeShape m peer chunk 
 answerOf m (cancel peer request-id) = was-open (cancelCall tapeShape (m .numbers) peer request-id .answer)
 answerOf m (drop-peer peer) = counted (dropCall tapeShape (m .numbers) peer .answer)
 answerOf m (poll now-ms) =
-    let r = pollCall tapeShape (m .numbers) now-ms (replicate 8 0) (replicate 8 0) in
+    let r = pollCall tapeShape (m .numbers) now-ms column column in
     timed-out (r .answer) (r .out-peers) (r .out-ids)
 
 -- Each call gets the memory that the last one left.

@@ -66,9 +66,16 @@ readTold tape (CommandRead.Next c next) = granted (some (record { command = comm
 readTold tape CommandRead.End = granted none
 readTold tape (CommandRead.Refused e) = tapeRefused e
 
+-- A feed's chunk stands behind its byte and its operands.
+abbrev pub ChunkBehind : ℕ → TapeCommand → Type 0
+ChunkBehind at (Feed f) = f .«chunk_at» ≡ at + 15
+ChunkBehind at (Cancel peer request-id) = Unit {0}
+ChunkBehind at (Drop peer) = Unit {0}
+ChunkBehind at (Poll now-ms) = Unit {0}
+
 -- What is read lies in the tape, behind the place where it was read.
 abbrev pub Within : List ℕ → ℕ → CommandRead → Type 0
-Within tape at (CommandRead.Next c next) = (lies c tape ≡ true) × (at < next) × (next ≤ length tape)
+Within tape at (CommandRead.Next c next) = (lies c tape ≡ true) × (at < next) × (next ≤ length tape) × ChunkBehind at c
 Within tape at CommandRead.End = Unit {0}
 Within tape at (CommandRead.Refused e) = Unit {0}
 

@@ -24,7 +24,7 @@ ghost use mathlib.Core.Bool.{true};
 ghost use mathlib.Core.Option.{some};
 ghost use mathlib.Core.Path.{_≡_};
 ghost use Prim.Native.Nat.{_+_, _≤_, _<_};
-ghost use lib.ListN.{length, drop, replicate};
+ghost use lib.ListN.{length, drop};
 ghost use Rattle.seven_bit.specs.Parts.{part};
 ghost use Rattle.seven_bit.specs.Reply.{granted};
 ghost use Rattle.pe_slot.specs.Feed.{fedTold};
@@ -33,7 +33,7 @@ ghost use Rattle.pe_reassembler.specs.Calls.{cancelledTold, countTold};
 ghost use Rattle.pe_reassembler.specs.Poll.{pollCall};
 ghost use Rattle.pe_tape.specs.Command.{feed as feedOf, readCommand};
 ghost use Rattle.pe_tape.specs.Line.{feedShown, cancelShown, countShown};
-ghost use Rattle.pe_tape.specs.Play.{tapeShape, called, makeCall, playLeft, playCall};
+ghost use Rattle.pe_tape.specs.Play.{tapeShape, column, called, makeCall, playLeft, playCall};
 ghost use Rattle.pe_tape.specs.Steps.{kindTold, stepTold, stepLeft, playStep, InOutput};
 ghost use Rattle.pe_tape.specs.Told.{commandOf, lies, placed, shownTold, stopTold};
 
@@ -120,8 +120,8 @@ fn call_feed(
 }
 
 fn call_poll(numbers: &mut [u64], now_ms: u64) -> Shown
-    ensures { λ r. ⌜ (shownTold r ≡ countShown (pollCall tapeShape (now (numbers .entry)) «now_ms» (replicate 8 0) (replicate 8 0) .answer))
-        × (now (numbers .exit) ≡ pollCall tapeShape (now (numbers .entry)) «now_ms» (replicate 8 0) (replicate 8 0) .numbers) ⌝ }
+    ensures { λ r. ⌜ (shownTold r ≡ countShown (pollCall tapeShape (now (numbers .entry)) «now_ms» column column .answer))
+        × (now (numbers .exit) ≡ pollCall tapeShape (now (numbers .entry)) «now_ms» column column .numbers) ⌝ }
 {
     let mut peers = [0u64; 8];
     let mut request_ids = [0u64; 8];

@@ -1,8 +1,11 @@
 // Writes commands as a tape has them, reads each back, and writes what was read again: two lines of bytes for each, which are the same. The
-// request's own two come first (document 02, K4), then each command with its smallest and greatest values, and what is not written.
+// request's own two come first (document 02, K4), then each command with values at the ends and values that show the order of their bytes, and what is
+// not written; at the end the two last lines that a tape can have.
 use libc::STDOUT_FILENO;
 use pe_tape::command::Command;
 use pe_tape::command::FedChunk;
+use pe_tape::error::TapeError;
+use pe_tape::line::last_line;
 use pe_tape::read::CommandRead;
 use pe_tape::read::read_command;
 use pe_tape::write::CommandWritten;
@@ -51,6 +54,13 @@ fn print_command(command: Command, source: &[u8]) {
     print_again(&out);
 }
 
+fn print_last(e: TapeError) {
+    let last = last_line(e);
+    let bytes = last.bytes;
+    let len = last.len;
+    io::write_all(STDOUT_FILENO, &bytes[..len]);
+}
+
 fn feed(peer: u32, now_ms: u64, chunk_at: usize, chunk_len: usize) -> Command {
     Command::Feed(FedChunk {
         peer,
@@ -85,4 +95,6 @@ fn main() {
     print_command(Command::Poll(0x0102_0304_0506_0708), b"");
     print_command(Command::Poll(0), b"");
     print_command(feed(5, 1000, 1, 11), &chunk);
+    print_last(TapeError::UnknownCommand);
+    print_last(TapeError::CutOff);
 }
