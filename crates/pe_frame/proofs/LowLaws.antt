@@ -7,11 +7,11 @@ use mathlib.Core.Path.{_≡_, refl, sym, ap, _∙_}
 use native.Mathlib.Omega.{arith}
 use lib.Bits.{bitOr}
 use lib.Dec.{leb}
-use lib.ListN.{length, getD, set, take, drop, take-append-drop}
-use lib.Seq.{drop-drop, take-add, take-take}
+use lib.ListN.{length, getD, set, take, drop, length-drop, take-append-drop}
+use lib.Seq.{drop-drop, take-add, take-all, take-take}
 use Rattle.seven_bit.specs.Parts.{part}
 use Rattle.seven_bit.specs.SevenBit.{isSevenBit}
-use Rattle.seven_bit.proofs.PartLaws.{part-none, part-next, rest}
+use Rattle.seven_bit.proofs.PartLaws.{part-none, part-next}
 use Rattle.seven_bit.proofs.SevenBitLaws.{seven-bit-take, seven-bit-drop, seven-bit-behind, gather, gather-end}
 
 -- a part and what follows it
@@ -103,12 +103,14 @@ module _ (bits₀ s : List ℕ) where
       ∙ and-assoc (isSevenBit bits₀) (isSevenBit (take at s)) (isSevenBit (part at k s))
       ∙ ap (λ (q : Bool). isSevenBit bits₀ && q) (sym (next-part at k s))
 
-  pub gathered-last : (now bits : Bool) (at b : ℕ) → bits ≡ (isSevenBit bits₀ && isSevenBit (take at s))
-      → now ≡ (bits && isSevenBit (part b (length s - b) s)) → b ≤ at
+  pub gathered-last : (now bits : Bool) (at k : ℕ) → bits ≡ (isSevenBit bits₀ && isSevenBit (take at s))
+      → now ≡ (bits && isSevenBit (part (length s - k) k s)) → k ≤ length s → length s ≤ at + k
       → now ≡ (isSevenBit bits₀ && isSevenBit s)
-  gathered-last now bits at b e n h =
+  gathered-last now bits at k e n l h =
+      let b = length s - k in
+      let r : part b k s ≡ drop b s = take-all k (drop b s) (simp length-drop (omega arith)) in
       n
-      ∙ ap (λ (q : Bool). q && isSevenBit (part b (length s - b) s)) e
-      ∙ and-assoc (isSevenBit bits₀) (isSevenBit (take at s)) (isSevenBit (part b (length s - b) s))
-      ∙ ap (λ (t : List ℕ). isSevenBit bits₀ && (isSevenBit (take at s) && isSevenBit t)) (rest b s)
-      ∙ ap (λ (q : Bool). isSevenBit bits₀ && q) (cover s at b h)
+      ∙ ap (λ (q : Bool). q && isSevenBit (part b k s)) e
+      ∙ and-assoc (isSevenBit bits₀) (isSevenBit (take at s)) (isSevenBit (part b k s))
+      ∙ ap (λ (t : List ℕ). isSevenBit bits₀ && (isSevenBit (take at s) && isSevenBit t)) r
+      ∙ ap (λ (q : Bool). isSevenBit bits₀ && q) (cover s at b (omega arith))

@@ -148,10 +148,10 @@ pub fn decode_fields(data: &[u8]) -> ChunkRead
     if data.len() < PE_FRAMING_LEN {
         return ChunkRead::Refused(PeError::Truncated);
     }
-    if all_low(data) {
-        return decode_low(data);
+    if !all_low(data) {
+        return ChunkRead::Refused(high_byte(data));
     }
-    ChunkRead::Refused(high_byte(data))
+    decode_low(data)
 }
 
 // How long a chunk is, or why it can't be written.

@@ -12,11 +12,11 @@ use Rattle.pe_frame.proofs.low.gather.Statement.{statement}
 use Rattle.pe_frame.proofs.low.gather.Tie as tie
 
 abbrev Inv-loop : tie.InvT-loop
-Inv-loop bits₀ s at i₀ bits i =
-    (i ≤ length bits₀) × (length bits ≡ length bits₀) × (isSevenBit bits ≡ (isSevenBit bits₀ && isSevenBit (part at i s)))
+Inv-loop bits₀ s at k i₀ bits i =
+    (i ≤ k) × (length bits ≡ length bits₀) × (isSevenBit bits ≡ (isSevenBit bits₀ && isSevenBit (part at i s)))
 
 abbrev μ-loop : tie.MeasureT-loop
-μ-loop bits₀ s at i₀ bits i = length bits₀ - i
+μ-loop bits₀ s at k i₀ bits i = k - i
 
 loop-holds : tie.Need-loop-holds Inv-loop μ-loop
 loop-holds c = let a = c .args in (omega arith, refl, gathered-none (now (a .bits)) (now (a .s)) (a .at))
@@ -55,7 +55,7 @@ returns : tie.Need-returns Inv-loop μ-loop
 returns c =
     let a = c .before .before in
     let l = c .before .loop in
-    let e : l .i ≡ length (now (a .args .bits)) = omega (arith, l .inv .0, l .inv .1, c .loop-test .left) in
+    let e : l .i ≡ a .args .k = omega (arith, l .inv .0, c .loop-test .left) in
     l .inv .2 ∙ ap (λ (k : ℕ). isSevenBit (now (a .args .bits)) && isSevenBit (part (a .args .at) k (now (a .args .s)))) e
 
 pub gather-spec : {M : Type 1} → statement M

@@ -8,8 +8,8 @@ use lib.ListN.{length, take}
 use Rattle.seven_bit.specs.Parts.{part}
 use Rattle.seven_bit.specs.SevenBit.{isSevenBit}
 use Rattle.pe_frame.proofs.LowLaws.{gathered-none, gathered-block, gathered-last}
-use Rattle.pe_frame.proofs.low.gather_all.Statement.{statement}
-use Rattle.pe_frame.proofs.low.gather_all.Tie as tie
+use Rattle.pe_frame.proofs.low.gather_blocks.Statement.{statement}
+use Rattle.pe_frame.proofs.low.gather_blocks.Tie as tie
 
 abbrev Inv-loop : tie.InvT-loop
 Inv-loop bits₀ s at₀ bits at =
@@ -40,8 +40,7 @@ loop-again c =
     let a = g .before .before .before .before .before .before .args in (
       omega (arith, g .before .before .loop-test .taken),
       search needs,
-      gathered-block (now (a .bits)) (now (a .s)) _ _ (l .at) 32 (l .inv .2)
-          (g .gather .ensures ∙ ap (λ (k : ℕ). isSevenBit (l .bits) && isSevenBit (part (l .at) k (now (a .s)))) (l .inv .1)),
+      gathered-block (now (a .bits)) (now (a .s)) _ _ (l .at) 32 (l .inv .2) (g .gather .ensures),
     )
 
 sub-gather : tie.Need-sub-gather Inv-loop μ-loop
@@ -59,14 +58,11 @@ returns c =
     let l = g .before .before .before .loop in
     let s = g .before .before .before .before .before .before in
     let a = s .args in
-    let n = length (now (a .s)) in
-    let e : length (l .bits) ≡ n - (n - 32) = omega (arith, l .inv .1, s .pre .1) in
-    gathered-last (now (a .bits)) (now (a .s)) _ _ (l .at) (n - 32) (l .inv .2)
-    (g .gather2 .ensures ∙ ap (λ (k : ℕ). isSevenBit (l .bits) && isSevenBit (part (n - 32) k (now (a .s)))) e)
+    gathered-last (now (a .bits)) (now (a .s)) _ _ (l .at) 32 (l .inv .2) (g .gather2 .ensures) (s .pre .1)
     (omega (arith, l .inv .0, g .before .before .loop-test .left))
 
-pub gather-all-spec : {M : Type 1} → statement M
-gather-all-spec =
+pub gather-blocks-spec : {M : Type 1} → statement M
+gather-blocks-spec =
     tie.close
     (tie.spec
     Inv-loop
