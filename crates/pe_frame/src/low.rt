@@ -1,5 +1,5 @@
 // Are all bytes of a chunk up to 7F? `seven_bit::all_seven_bit` asks the same byte by byte; here the bits of whole blocks are gathered side by
-// side, which takes half the time for a chunk of some hundred bytes.
+// side, which is quicker (docs/BENCHMARKS.md).
 use seven_bit::all_seven_bit;
 ghost use mathlib.Core.Bool.{_&&_};
 ghost use mathlib.Core.Path.{_≡_};
