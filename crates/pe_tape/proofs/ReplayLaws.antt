@@ -200,7 +200,8 @@ play-on m xs ys room =
         ∙ rw (drop-drop (p .used) (t .len) s, append-assoc)
 
 -- the same of the table
-memory-next : (m : Memory) (s : List ℕ) (t : Taken) → readCommand s ≡ granted (some t) → memoryOf m s ≡ memoryOf (makeCall m (t .command) .memory) (drop (t .len) s)
+memory-next : (m : Memory) (s : List ℕ) (t : Taken) → readCommand s ≡ granted (some t)
+    → memoryOf m s ≡ memoryOf (makeCall m (t .command) .memory) (drop (t .len) s)
 unfolding memoryAfter
 memory-next m s t e = rw (tape-next s t e)
 

@@ -73,7 +73,8 @@ pub over-refused : (stop : Stop) (e : TapeError) (more : Bool) (n unknown : ℕ)
 over-refused stop e more n unknown s= m= n= u= = rw (s=, m=, n=, u=)
 
 -- a block is played, from what `play` says
-pub block-played : (m m′ : Memory) (block : List ℕ) (len : ℕ) (came : Bool) (out out′ : List ℕ) (turn : Turn) (block′ : List ℕ) (next written : ℕ) (stop : Reply ℕ)
+pub block-played : (m m′ : Memory) (block : List ℕ) (len : ℕ) (came : Bool) (out out′ : List ℕ) (turn : Turn) (block′ : List ℕ)
+    (next written : ℕ) (stop : Reply ℕ)
     → playLeft next written stop m′ out′ ≡ playCall m (take len block) out
     → Kept block next len (isOver stop (came && eqb next 0)) turn block′ → BlockPlayed m block len came out turn m′ block′ out′
 block-played m m′ block len came out out′ turn block′ next written stop e k = (

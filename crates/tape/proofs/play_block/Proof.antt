@@ -152,7 +152,8 @@ returns-3 c =
     let d = played (c .before .before .before .before .before .before .before .before .before) in
     let p = d .play in
     let a = start d .args in
-    block-played _ _ (now (a .block)) (a .len) (a .nothing-came) _ _ (Turn.Left _) _ _ _ _ (p .ensures .0) (sym (o .ensures) ∙ c .before .before .before .before .if2 .left, refl, k .ensures)
+    block-played _ _ (now (a .block)) (a .len) (a .nothing-came) _ _ (Turn.Left _) _ _ _ _ (p .ensures .0)
+    (sym (o .ensures) ∙ c .before .before .before .before .if2 .left, refl, k .ensures)
 
 pub play-block-spec : {M : Type 1} → statement M
 play-block-spec =
