@@ -1,26 +1,27 @@
 -- The laws of reading and writing a chunk.
 -- Assumes nothing.
 use Prim.Native.Nat.{ℕ, _+_, _<_, _≤_}
-use mathlib.Core.Bool.{Bool, true, false, _||_}
+use mathlib.Core.Bool.{Bool, true, false, _&&_, _||_}
 use mathlib.Core.List.{List, [], _∷_, _++_, append-assoc}
 use mathlib.Core.Logic.{_⊎_, inl, inr}
 use mathlib.Core.Path.{_≡_, refl, sym, ap, _∙_}
 use native.Mathlib.Omega.{arith}
 use borrow.Author.Tests.{le-leb, lt-leb, leb-true}
 use lib.Dec.{leb, eqb}
-use lib.ListN.{length, getD, drop, length-append, length-drop}
-use lib.Seq.{take-all}
+use lib.ListN.{length, getD, take, drop, length-append}
+use lib.Seq.{getD-take, take-all}
 use Rattle.seven_bit.specs.Parts.{part, put, putFit}
 use Rattle.seven_bit.specs.Reply.{Reply, granted, refused, _else_then_, andThen}
 use Rattle.seven_bit.specs.SevenBit.{isSevenBit, numberOf, bytesOf}
-use Rattle.seven_bit.proofs.PartLaws.{part-none, part-next, put-put, fit-yes, length-put}
-use Rattle.seven_bit.proofs.SevenBitLaws.{seven-bit-cons, seven-bit-at, seven-bit-part, seven-bit-past, bytes-length}
+use Rattle.seven_bit.proofs.PartLaws.{put-put, fit-yes, length-put}
+use Rattle.seven_bit.proofs.SevenBitLaws.{seven-bit-at, bytes-length}
 use Rattle.seven_bit.proofs.ReplyLaws.{both, asked, then-else}
 use Rattle.pe_wire.specs.Wire.{readU14}
 use Rattle.pe_frame.specs.Chunk.{Chunk, Fields, withinCount, readEnd, readFields}
 use Rattle.pe_frame.specs.Write.{askChunk, chunkLen, chunkBytes, putChunk, writeChunk}
 pub use Rattle.pe_frame.specs.Write.{InRange}
-use Rattle.pe_frame.proofs.FieldLaws.{three-fields, read-yes}
+use Rattle.pe_frame.proofs.FieldLaws.{three-fields, read-at, read-yes}
+use Rattle.pe_frame.proofs.LowLaws.{next-part, one-part, from-start, front-part}
 
 -- those behind the header, where the bytes of all fields are asked at once
 abbrev pub readCounts : List ℕ → ℕ → Reply Fields
@@ -44,56 +45,75 @@ pub past-fields : (s : List ℕ) (nh count number nd : ℕ) → isSevenBit (part
     → readCounts s nh ≡ readEnd s nh count number nd
 past-fields s nh count number nd t c n d = rw (t, c, n, d)
 
--- where every byte is up to 7F, only the questions of lengths and numbers are left
-module _ (s : List ℕ) (nine : 9 ≤ length s) (low : isSevenBit s ≡ true) where
-  low-size : readU14 (drop 1 s) ≡ granted (numberOf (part 1 2 s))
-  low-size = read-yes s 1 _ (omega arith) (seven-bit-part 1 2 s low) refl
+-- where the first h bytes are up to 7F, only the questions of lengths and numbers are left of those about them
+module _ (s : List ℕ) (nine : 9 ≤ length s) (h : ℕ) (low : isSevenBit (take h s) ≡ true) where
+  low-id : 0 < h → getD s 0 0 ≤ 127
+  low-id p = omega (arith, getD-take h s 0 0 p, seven-bit-at (take h s) low 0)
 
-  pub low-short : (nh : ℕ) → nh ≡ numberOf (part 1 2 s) → length s < 9 + nh → readFields s ≡ refused 2 0
+  low-size : (nh : ℕ) → 3 ≤ h → nh ≡ numberOf (part 1 2 s) → readU14 (drop 1 s) ≡ granted nh
+  low-size nh p e = read-yes s 1 nh (omega arith) (front-part s h 1 2 low p) e
+
+  pub low-short : (nh : ℕ) → 3 ≤ h → nh ≡ numberOf (part 1 2 s) → length s < 9 + nh → readFields s ≡ refused 2 0
   unfolding readFields
-  low-short nh e h = rw (le-leb _ _ nine, le-leb _ _ (seven-bit-at s low 0), low-size, ← e, lt-leb _ _ h)
+  low-short nh p e l = rw (le-leb _ _ nine, le-leb _ _ (low-id (omega arith)), low-size nh p e, lt-leb _ _ l)
 
-  pub low-fields : (nh count number nd : ℕ) → nh ≡ numberOf (part 1 2 s) → 9 + nh ≤ length s → count ≡ numberOf (part (3 + nh) 2 s)
+  low-header : (nh : ℕ) → 3 + nh ≤ h → nh ≡ numberOf (part 1 2 s) → 9 + nh ≤ length s → readFields s ≡ readCounts s nh
+  low-header nh p e l = past-header s nh l (low-id (omega arith)) (low-size nh (omega arith) e) (front-part s h 3 nh low p)
+
+  pub low-fields : (nh count number nd : ℕ) → 9 + nh ≤ h → nh ≡ numberOf (part 1 2 s) → 9 + nh ≤ length s → count ≡ numberOf (part (3 + nh) 2 s)
       → number ≡ numberOf (part (3 + nh + 2) 2 s) → nd ≡ numberOf (part (3 + nh + 4) 2 s) → readFields s ≡ readEnd s nh count number nd
-  low-fields nh count number nd e l c n d =
-      past-header s nh l (seven-bit-at s low 0) (low-size ∙ ap granted (sym e)) (seven-bit-part 3 nh s low)
-      ∙ past-fields s nh count number nd (seven-bit-part (3 + nh) 6 s low) c n d
+  low-fields nh count number nd p e l c n d =
+      low-header nh (omega arith) e l
+      ∙ past-fields s nh count number nd (front-part s h (3 + nh) 6 low (omega arith)) c n d
 
-first-low : (s : List ℕ) → 0 < length s → getD s 0 0 ≤ 127 → isSevenBit (part 0 1 s) ≡ true
-unfolding isSevenBit
-first-low s n h =
-    let e : isSevenBit (part 1 0 s) ≡ true = ap isSevenBit (part-none 1 s) in
-    ap isSevenBit (part-next 0 0 s 0 n) ∙ seven-bit-cons (getD s 0 0) (part 1 0 s) h e
-
--- where one is not, and none of those that are asked first, it is the property's, or one too many
-high-property : (s : List ℕ) (nh nd : ℕ) → 9 + nh + nd ≡ length s → getD s 0 0 ≤ 127 → isSevenBit (part 1 2 s) ≡ true → isSevenBit (part 3 nh s) ≡ true
-    → isSevenBit (part (3 + nh) 6 s) ≡ true → isSevenBit s ≡ false → isSevenBit (part (9 + nh) nd s) ≡ false
-high-property s nh nd l i h₁ h₂ h₃ b =
-    let one : isSevenBit (part 0 1 s) ≡ true = first-low s (omega arith) i in
-    let zero : drop 0 s ≡ s = drop-none s in
-    let e : 3 + nh + 6 ≡ 9 + nh = omega arith in
-    let all : part (9 + nh) nd s ≡ drop (9 + nh) s = take-all nd (drop (9 + nh) s) (omega (arith, length-drop (9 + nh) s)) in
-    ap isSevenBit all
-    ∙ ap (λ (k : ℕ). isSevenBit (drop k s)) (sym e)
-    ∙ sym (seven-bit-past (3 + nh) 6 s h₃)
-    ∙ sym (seven-bit-past 3 nh s h₂)
-    ∙ sym (seven-bit-past 1 2 s h₁)
-    ∙ sym (seven-bit-past 0 1 s one)
-    ∙ ap isSevenBit zero
-    ∙ b
+-- where one of the first three is above
+pub high-size : (s : List ℕ) → 9 ≤ length s → isSevenBit (take 3 s) ≡ false → readFields s ≡ refused 1 0
+unfolding readFields
+high-size s nine f = go (both (leb (getD s 0 0) 127))
   where
-    drop-none : (t : List ℕ) → drop 0 t ≡ t
-    drop-none [] = refl
-    drop-none (x ∷ xs) = refl
+    three : isSevenBit (take 3 s) ≡ (leb (getD s 0 0) 127 && isSevenBit (part 1 2 s))
+    three =
+        next-part 1 2 s
+        ∙ ap (λ (b : Bool). b && isSevenBit (part 1 2 s)) (ap isSevenBit (sym (from-start 1 s)) ∙ one-part s 0 (omega (arith, nine)))
 
-pub high-end : (s : List ℕ) (nh count number nd : ℕ) → 9 + nh + nd ≤ length s → getD s 0 0 ≤ 127 → isSevenBit (part 1 2 s) ≡ true
-    → isSevenBit (part 3 nh s) ≡ true
-    → isSevenBit (part (3 + nh) 6 s) ≡ true → isSevenBit s ≡ false → readEnd s nh count number nd ≡ refused 1 0
+    go : (leb (getD s 0 0) 127 ≡ true) ⊎ (leb (getD s 0 0) 127 ≡ false) → readFields s ≡ refused 1 0
+    go (inl t) =
+        let e : isSevenBit (part 1 2 s) ≡ false = sym (three ∙ ap (λ (b : Bool). b && isSevenBit (part 1 2 s)) t) ∙ f in
+        rw (le-leb _ _ nine, t, read-at s 1 (omega (arith, nine)), e)
+    go (inr t) = rw (le-leb _ _ nine, t)
+
+-- one of the header's, or of the fields' behind it
+pub high-counts : (s : List ℕ) (nh : ℕ) → isSevenBit (take 3 s) ≡ true → nh ≡ numberOf (part 1 2 s) → 9 + nh ≤ length s → isSevenBit (take (9 + nh) s) ≡ false
+    → readFields s ≡ refused 1 0
+unfolding readFields
+high-counts s nh low e l f = go (both (isSevenBit (take (3 + nh) s)))
+  where
+    nine : 9 ≤ length s
+    nine = omega (arith, l)
+
+    go : (isSevenBit (take (3 + nh) s) ≡ true) ⊎ (isSevenBit (take (3 + nh) s) ≡ false) → readFields s ≡ refused 1 0
+    go (inl t) =
+        let n : 3 + nh + 6 ≡ 9 + nh = omega arith in
+        let six : isSevenBit (take (3 + nh + 6) s) ≡ isSevenBit (part (3 + nh) 6 s) =
+        next-part (3 + nh) 6 s ∙ ap (λ (b : Bool). b && isSevenBit (part (3 + nh) 6 s)) t in
+        let g : isSevenBit (part (3 + nh) 6 s) ≡ false = sym six ∙ ap (λ (k : ℕ). isSevenBit (take k s)) n ∙ f in
+        low-header s nine (3 + nh) t nh (omega arith) e l ∙ rw g
+    go (inr t) =
+        let g : isSevenBit (part 3 nh s) ≡ false = sym (next-part 3 nh s ∙ ap (λ (b : Bool). b && isSevenBit (part 3 nh s)) low) ∙ t in
+        rw (le-leb _ _ nine, le-leb _ _ (low-id s nine 3 low (omega arith)), low-size s nine 3 low nh (omega arith) e, le-leb _ _ l, g)
+
+-- one of the property's, or one too many
+pub high-end : (s : List ℕ) (nh count number nd : ℕ) → isSevenBit (take (9 + nh) s) ≡ true → isSevenBit s ≡ false → 9 + nh + nd ≤ length s
+    → readEnd s nh count number nd ≡ refused 1 0
 unfolding readEnd
-high-end s nh count number nd l i h₁ h₂ h₃ b = go (both (leb (length s) (9 + nh + nd)))
+high-end s nh count number nd low f l = go (both (leb (length s) (9 + nh + nd)))
   where
     go : (leb (length s) (9 + nh + nd) ≡ true) ⊎ (leb (length s) (9 + nh + nd) ≡ false) → readEnd s nh count number nd ≡ refused 1 0
-    go (inl t) = rw (le-leb _ _ l, t, high-property s nh nd (omega (arith, l, leb-true (length s) (9 + nh + nd) t)) i h₁ h₂ h₃ b)
+    go (inl t) =
+        let all : isSevenBit (take (9 + nh + nd) s) ≡ isSevenBit (part (9 + nh) nd s) =
+        next-part (9 + nh) nd s ∙ ap (λ (b : Bool). b && isSevenBit (part (9 + nh) nd s)) low in
+        let g : isSevenBit (part (9 + nh) nd s) ≡ false = sym all ∙ ap isSevenBit (take-all (9 + nh + nd) s (leb-true _ _ t)) ∙ f in
+        rw (le-leb _ _ l, t, g)
     go (inr t) = rw (le-leb _ _ l, t)
 
 -- the writer's questions behind those of lengths and numbers

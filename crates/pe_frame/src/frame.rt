@@ -1,8 +1,10 @@
 // A chunk: request id, header length (14 bits), header, chunk count (14), chunk number (14), property length (14), property.
 use crate::low::all_low;
+use crate::low::each_low;
 use pe_wire::error::PeError;
 use pe_wire::wire::Encoded;
 use pe_wire::wire::U14_MAX;
+use pe_wire::wire::join_u14;
 use pe_wire::wire::write_u14_le7;
 ghost use mathlib.Core.Bool.{true, false};
 ghost use mathlib.Core.Path.{_≡_};
@@ -44,23 +46,7 @@ fn u14_at(data: &[u8], at: usize) -> u16
     requires { ⌜ at + 2 ≤ length (now «data») ⌝ }
     ensures { λ r. ⌜ r ≡ numberOf (part at 2 (now («data» .entry))) ⌝ }
 {
-    data[at] as u16 + data[at + 1] as u16 * 128
-}
-
-// Are the two bytes from at on up to 7F?
-fn low_two(data: &[u8], at: usize) -> bool
-    requires { ⌜ at + 2 ≤ length (now «data») ⌝ }
-    ensures { λ r. ⌜ r ≡ isSevenBit (part at 2 (now («data» .entry))) ⌝ }
-{
-    (data[at] | data[at + 1]) <= 0x7F
-}
-
-// Are the six bytes from at on up to 7F?
-fn low_six(data: &[u8], at: usize) -> bool
-    requires { ⌜ at + 6 ≤ length (now «data») ⌝ }
-    ensures { λ r. ⌜ r ≡ isSevenBit (part at 6 (now («data» .entry))) ⌝ }
-{
-    (data[at] | data[at + 1] | data[at + 2] | data[at + 3] | data[at + 4] | data[at + 5]) <= 0x7F
+    join_u14(data[at], data[at + 1])
 }
 
 // Is a chunk's number within its count, where that is known?
@@ -117,25 +103,17 @@ fn high_byte(data: &[u8]) -> PeError
     requires { ⌜ (9 ≤ length (now «data»)) × (isSevenBit (now «data») ≡ false) ⌝ }
     ensures { λ r. ⌜ peRefused r ≡ readFields (now («data» .entry)) ⌝ }
 {
-    if data[0] > REQUEST_ID_MAX {
+    if !each_low(&data[0..HEADER_AT]) {
         return PeError::BadField;
     }
-    if !low_two(data, 1) {
-        return PeError::BadField;
-    }
-    let nh = u14_at(data, 1) as usize;
-    let property_at = PE_FRAMING_LEN + nh;
+    let property_at = PE_FRAMING_LEN + u14_at(data, 1) as usize;
     if data.len() < property_at {
         return PeError::Truncated;
     }
-    let behind = HEADER_AT + nh;
-    if !seven_bit::all_seven_bit(&data[HEADER_AT..behind]) {
+    if !each_low(&data[0..property_at]) {
         return PeError::BadField;
     }
-    if !low_six(data, behind) {
-        return PeError::BadField;
-    }
-    if data.len() < property_at + u14_at(data, behind + 4) as usize {
+    if data.len() < property_at + u14_at(data, property_at - 2) as usize {
         return PeError::Truncated;
     }
     PeError::BadField

@@ -12,7 +12,7 @@ use borrow.Author.Tests.{le-leb, lt-leb, leb-true, leb-false}
 use lib.Bits.{bitOr, bitAnd, or-lt, or-add-and, and-le-l, and-le-r}
 use lib.Dec.{leb}
 use lib.ListN.{length, getD, take, drop, take-append-drop}
-use lib.Seq.{drop-cons, drop-drop, length-take-le}
+use lib.Seq.{drop-cons, length-take-le}
 use Rattle.seven_bit.specs.Parts.{part}
 use Rattle.seven_bit.specs.SevenBit.{isSevenBit, numberOf, bytesOf}
 use Rattle.seven_bit.proofs.ReplyLaws.{both}
@@ -68,12 +68,6 @@ seven-bit-behind [] t h = refl
 seven-bit-behind (b ∷ bs) t h =
     let p = seven-bit-split b bs h in
     rw (le-leb b 127 (p .0)) (seven-bit-behind bs t (p .1))
-
-pub seven-bit-past : (a k : ℕ) (s : List ℕ) → isSevenBit (part a k s) ≡ true → isSevenBit (drop a s) ≡ isSevenBit (drop (a + k) s)
-seven-bit-past a k s h =
-    ap isSevenBit (sym (take-append-drop k (drop a s)))
-    ∙ seven-bit-behind (part a k s) (drop k (drop a s)) h
-    ∙ ap isSevenBit (drop-drop k a s)
 
 -- k bytes stand for a number below 128 ^ k
 pub number-below : (bs : List ℕ) → isSevenBit bs ≡ true → numberOf bs < 128 ^ length bs

@@ -6,17 +6,22 @@ use mathlib.Core.List.{List}
 use mathlib.Core.Logic.{⊎-elim}
 use mathlib.Core.Path.{_≡_, sym, _∙_}
 use Prim.Native.Nat.{ℕ, _+_}
+use native.Mathlib.Omega.{arith}
 use borrow.Author.Tests.{le-leb, lt-leb, eq-eqb, ne-eqb, not-true, not-false}
 use denote.Ref.{now}
 use lib.Dec.{eqb}
+use lib.ListN.{length, take}
 use Rattle.seven_bit.specs.Parts.{part}
 use Rattle.seven_bit.specs.SevenBit.{isSevenBit}
-use Rattle.seven_bit.proofs.SevenBitLaws.{seven-bit-part}
+use Rattle.seven_bit.proofs.SevenBitLaws.{seven-bit-take, seven-bit-part}
 use Rattle.pe_frame.specs.Chunk.{readEnd, readFields}
 use Rattle.pe_frame.proofs.ChunkLaws.{low-short, low-fields}
 
 abbrev bytes : tie.Start → List ℕ
 bytes c = now (c .args .«data»)
+
+all : (c : tie.Start) → isSevenBit (take (length (bytes c)) (bytes c)) ≡ true
+all c = seven-bit-take (length (bytes c)) (bytes c) (c .pre .1)
 
 abbrev start : tie.After-u14-at4 → tie.Start
 start c = c .before .before .before .before .before .before
@@ -30,7 +35,7 @@ behind : (c : tie.After-u14-at4)
 behind c =
     let a = start c in
     let u = c .before .before .before .before .u14-at in
-    low-fields (bytes a) (a .pre .0) (a .pre .1) _ _ _ _ (u .ensures) (c .before .before .before .if1 .left)
+    low-fields (bytes a) (a .pre .0) (length (bytes a)) (all a) _ _ _ _ (c .before .before .before .if1 .left) (u .ensures) (c .before .before .before .if1 .left)
     (c .before .before .u14-at2 .ensures) (c .before .u14-at3 .ensures) (c .u14-at4 .ensures)
 
 property : (c : tie.After-u14-at4) → isSevenBit (part (9 + nh c) (c .u14-at4 .result) (bytes (start c))) ≡ true
@@ -52,7 +57,9 @@ add-property-at : tie.Need-add-property-at
 add-property-at c = search needs
 
 returns : tie.Need-returns
-returns c = let a = c .before .before .before in sym (low-short (bytes a) (a .pre .0) (a .pre .1) _ (c .before .u14-at .ensures) (c .if1 .taken))
+returns c =
+    let a = c .before .before .before in
+    sym (low-short (bytes a) (a .pre .0) (length (bytes a)) (all a) _ (omega (arith, a .pre .0)) (c .before .u14-at .ensures) (c .if1 .taken))
 
 add-behind : tie.Need-add-behind
 add-behind c = search needs

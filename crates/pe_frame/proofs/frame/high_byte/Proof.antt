@@ -1,176 +1,155 @@
 use borrow.Author.Needs.{needs}
 use Rattle.pe_frame.proofs.frame.high_byte.Statement.{statement}
 use Rattle.pe_frame.proofs.frame.high_byte.Tie as tie
-use mathlib.Core.Bool.{true, false}
+use mathlib.Core.Bool.{true}
 use mathlib.Core.List.{List}
 use mathlib.Core.Path.{_≡_, refl, sym, ap, _∙_}
-use Prim.Native.Nat.{ℕ, _+_}
-use native.Mathlib.Nat.{add-sub-cancel-left}
-use borrow.Author.Tests.{le-leb, lt-leb, not-true, not-false}
+use Prim.Native.Nat.{ℕ, _+_, _-_}
+use native.Mathlib.Omega.{arith}
+use borrow.Author.Tests.{lt-leb, not-true, not-false}
 use denote.Ref.{now}
-use lib.ListN.{drop}
+use lib.ListN.{take}
 use Rattle.seven_bit.specs.Parts.{part}
-use Rattle.seven_bit.specs.Reply.{granted}
 use Rattle.seven_bit.specs.SevenBit.{isSevenBit, numberOf}
-use Rattle.pe_wire.specs.Wire.{readU14}
 use Rattle.pe_frame.specs.Chunk.{readEnd, readFields}
-use Rattle.pe_frame.proofs.FieldLaws.{read-at, read-yes}
-use Rattle.pe_frame.proofs.ChunkLaws.{readCounts, past-header, past-fields, high-end}
+use Rattle.pe_frame.proofs.ChunkLaws.{low-short, low-fields, high-size, high-counts, high-end}
+use Rattle.pe_frame.proofs.LowLaws.{from-start}
 
 abbrev bytes : tie.Start → List ℕ
 bytes c = now (c .args .«data»)
 
--- from where the header's length was read to the test of the id, and to the entry
-abbrev up : tie.After-u14-at → tie.Else1
-up c = c .before .before .before
+-- what is asked of the bytes before the header
+asked : (c : tie.After-each-low) → c .each-low .result ≡ isSevenBit (take 3 (bytes (c .before .before .before)))
+asked c = c .each-low .ensures ∙ ap isSevenBit (from-start 3 (bytes (c .before .before .before)))
 
-abbrev start : tie.Else1 → tie.Start
-start c = c .before .before .before
+-- where the header's length was read
+abbrev start : tie.After-u14-at → tie.Start
+start c = c .before .before .before .before .before
 
-two : (c : tie.After-u14-at) → isSevenBit (part 1 2 (bytes (start (up c)))) ≡ true
-two c = sym (c .before .before .low-two .ensures) ∙ not-false _ (c .before .if2 .left)
+size-low : (c : tie.After-u14-at) → isSevenBit (take 3 (bytes (start c))) ≡ true
+size-low c = sym (asked (c .before .before)) ∙ not-false _ (c .before .if1 .left)
 
-size : (c : tie.After-u14-at) → readU14 (drop 1 (bytes (start (up c)))) ≡ granted (c .u14-at .result)
-size c = read-yes (bytes (start (up c))) 1 _ (search needs) (two c) (c .u14-at .ensures)
+-- what is asked of those before the property
+abbrev size : tie.After-each-low2 → tie.After-u14-at
+size c = c .before .before .before
 
--- what the test of the header's bytes says
-header : (c : tie.After-all-seven-bit)
-    → c .all-seven-bit .result ≡ isSevenBit (part 3 (c .before .before .before .u14-at .result) (bytes (start (up (c .before .before .before)))))
-header c =
-    let v = c .before .before .before in
-    c .all-seven-bit .ensures ∙ ap (λ (k : ℕ). isSevenBit (part 3 k (bytes (start (up v))))) (add-sub-cancel-left 3 (v .u14-at .result))
+asked-on : (c : tie.After-each-low2) → c .each-low2 .result ≡ isSevenBit (take (9 + size c .u14-at .result) (bytes (start (size c))))
+asked-on c =
+    let s = bytes (start (size c)) in
+    let n = 9 + size c .u14-at .result in
+    let e : n - 0 ≡ n = omega arith in
+    c .each-low2 .ensures ∙ ap (λ (k : ℕ). isSevenBit (part 0 k s)) e ∙ ap isSevenBit (from-start n s)
 
--- the questions that are left behind the header, and behind the fields
-abbrev at : tie.Else4 → tie.After-u14-at
-at c = c .before .before .before .before
+-- where the property's length was read, and the questions that are left behind it
+abbrev up : tie.After-u14-at2 → tie.After-each-low2
+up c = c .before .before
 
-left : (c : tie.Else4) → let a = start (up (at c)) in readFields (bytes a) ≡ readCounts (bytes a) (at c .u14-at .result)
-left c =
-    let a = start (up (at c)) in
-    past-header (bytes a) _ (c .before .before .before .if3 .left) (up (at c) .if1 .left) (size (at c)) (sym (header (c .before)) ∙ not-false _ (c .if4 .left))
+counts-low : (c : tie.After-u14-at2) → isSevenBit (take (9 + size (up c) .u14-at .result) (bytes (start (size (up c))))) ≡ true
+counts-low c = sym (asked-on (up c)) ∙ not-false _ (c .before .if3 .left)
 
-six : (c : tie.Else5) → let a = start (up (at (c .before .before))) in isSevenBit (part (3 + at (c .before .before) .u14-at .result) 6 (bytes a)) ≡ true
-six c = sym (c .before .low-six .ensures) ∙ not-false _ (c .if5 .left)
-
-behind : (c : tie.After-u14-at2) → let n = at (c .before .before .before) in let s = bytes (start (up n)) in let nh = n .u14-at .result in
+behind : (c : tie.After-u14-at2) → let s = bytes (start (size (up c))) in let nh = size (up c) .u14-at .result in
     readFields s ≡ readEnd s nh (numberOf (part (3 + nh) 2 s)) (numberOf (part (3 + nh + 2) 2 s)) (c .u14-at2 .result)
-behind c = left (c .before .before .before) ∙ past-fields _ _ _ _ _ (six (c .before)) refl refl (c .u14-at2 .ensures)
+behind c =
+    let v = size (up c) in
+    let a = start v in
+    let nh = v .u14-at .result in
+    let e : 9 + nh - 2 ≡ 3 + nh + 4 = omega arith in
+    low-fields (bytes a) (a .pre .0) (9 + nh) (counts-low c) nh _ _ _ (omega arith) (v .u14-at .ensures) (up c .before .before .if2 .left) refl refl
+    (c .u14-at2 .ensures ∙ ap (λ (k : ℕ). numberOf (part k 2 (bytes a))) e)
 
-shared-slice-read-if1 : tie.Need-shared-slice-read-if1
-shared-slice-read-if1 c = search needs
+sub-each-low : tie.Need-sub-each-low
+sub-each-low c = search needs
+
+part-each-low-start : tie.Need-part-each-low-start
+part-each-low-start c = search needs
+
+part-each-low-end : tie.Need-part-each-low-end
+part-each-low-end c = search needs
+
+each-low-requires : tie.Need-each-low-requires
+each-low-requires c κs = search needs
 
 returns : tie.Need-returns
-unfolding readFields
-returns c = let a = c .before .before .before in rw (le-leb _ _ (a .pre .0), lt-leb _ _ (c .if1 .taken))
-
-low-two-requires : tie.Need-low-two-requires
-low-two-requires c κs = search needs
-
-returns-2 : tie.Need-returns-2
-unfolding readFields
-returns-2 c =
-    let d = c .before .before in
-    let s = bytes (start d) in
-    let f : isSevenBit (part 1 2 s) ≡ false = sym (c .before .low-two .ensures) ∙ not-true _ (c .if2 .taken) in
-    rw (le-leb _ _ (start d .pre .0), le-leb _ _ (d .if1 .left), read-at s 1 (search needs), f)
+returns c =
+    let a = c .before .before .before .before in
+    sym (high-size (bytes a) (a .pre .0) (sym (asked (c .before)) ∙ not-true _ (c .if1 .taken)))
 
 u14-at-requires : tie.Need-u14-at-requires
 u14-at-requires c κs = search needs
 
-cast-nh : tie.Need-cast-nh
-cast-nh c = search needs
+cast-property-at : tie.Need-cast-property-at
+cast-property-at c = search needs
 
 add-property-at : tie.Need-add-property-at
 add-property-at c = search needs
 
-returns-3 : tie.Need-returns-3
-unfolding readFields
-returns-3 c =
+returns-2 : tie.Need-returns-2
+returns-2 c =
     let v = c .before in
-    let d = up v in
-    rw (le-leb _ _ (start d .pre .0), le-leb _ _ (d .if1 .left), size v, lt-leb _ _ (c .if3 .taken))
+    let a = start v in
+    sym (low-short (bytes a) (a .pre .0) 3 (size-low v) _ (omega arith) (v .u14-at .ensures) (c .if2 .taken))
 
-add-behind : tie.Need-add-behind
-add-behind c = search needs
+sub-each-low-2 : tie.Need-sub-each-low-2
+sub-each-low-2 c = search needs
 
-sub-all-seven-bit : tie.Need-sub-all-seven-bit
-sub-all-seven-bit c = search needs
+part-each-low-start-2 : tie.Need-part-each-low-start-2
+part-each-low-start-2 c = search needs
 
-part-all-seven-bit-start : tie.Need-part-all-seven-bit-start
-part-all-seven-bit-start c = search needs
+part-each-low-end-2 : tie.Need-part-each-low-end-2
+part-each-low-end-2 c = search needs
 
-part-all-seven-bit-end : tie.Need-part-all-seven-bit-end
-part-all-seven-bit-end c = search needs
+each-low-requires-2 : tie.Need-each-low-requires-2
+each-low-requires-2 c κs = search needs
 
-all-seven-bit-requires : tie.Need-all-seven-bit-requires
-all-seven-bit-requires c κs = search needs
+returns-3 : tie.Need-returns-3
+returns-3 c =
+    let w = c .before in
+    let v = size w in
+    sym (high-counts (bytes (start v)) _ (size-low v) (v .u14-at .ensures) (w .before .before .if2 .left) (sym (asked-on w) ∙ not-true _ (c .if3 .taken)))
 
-returns-4 : tie.Need-returns-4
-unfolding readFields
-returns-4 c =
-    let v = c .before .before .before .before in
-    let d = up v in
-    let f = sym (header (c .before)) ∙ not-true _ (c .if4 .taken) in
-    rw (le-leb _ _ (start d .pre .0), le-leb _ _ (d .if1 .left), size v, le-leb _ _ (c .before .before .before .if3 .left), f)
-
-low-six-requires : tie.Need-low-six-requires
-low-six-requires c κs = search needs
-
-returns-5 : tie.Need-returns-5
-returns-5 c =
-    let d = c .before .before in
-    let f = sym (c .before .low-six .ensures) ∙ not-true _ (c .if5 .taken) in
-    rw (left d, f)
-
-add-u14-at : tie.Need-add-u14-at
-add-u14-at c = search needs
+sub-u14-at : tie.Need-sub-u14-at
+sub-u14-at c = search needs
 
 u14-at-requires-2 : tie.Need-u14-at-requires-2
 u14-at-requires-2 c κs = search needs
 
-cast-if6 : tie.Need-cast-if6
-cast-if6 c = search needs
+cast-if4 : tie.Need-cast-if4
+cast-if4 c = search needs
 
-add-if6 : tie.Need-add-if6
-add-if6 c = search needs
+add-if4 : tie.Need-add-if4
+add-if4 c = search needs
 
-returns-6 : tie.Need-returns-6
+returns-4 : tie.Need-returns-4
 unfolding readEnd
-returns-6 c = rw (behind (c .before), lt-leb _ _ (c .if6 .taken))
+returns-4 c = rw (behind (c .before), lt-leb _ _ (c .if4 .taken))
 
-returns-7 : tie.Need-returns-7
-returns-7 c =
+returns-5 : tie.Need-returns-5
+returns-5 c =
     let u = c .before in
-    let e = u .before in
-    let d = e .before .before in
-    let n = at d in
-    let a = start (up n) in
-    let h = sym (header (d .before)) ∙ not-false _ (d .if4 .left) in
-    sym (behind u ∙ high-end (bytes a) _ _ _ _ (c .if6 .left) (up n .if1 .left) (two n) h (six e) (a .pre .1))
+    let a = start (size (up u)) in
+    sym (behind u ∙ high-end (bytes a) _ _ _ _ (counts-low u) (a .pre .1) (c .if4 .left))
 
 pub high-byte-spec : {M : Type 1} → statement M
 high-byte-spec =
     tie.close
     (tie.spec
-    shared-slice-read-if1
+    sub-each-low
+    part-each-low-start
+    part-each-low-end
+    each-low-requires
     returns
-    low-two-requires
-    returns-2
     u14-at-requires
-    cast-nh
+    cast-property-at
     add-property-at
+    returns-2
+    sub-each-low-2
+    part-each-low-start-2
+    part-each-low-end-2
+    each-low-requires-2
     returns-3
-    add-behind
-    sub-all-seven-bit
-    part-all-seven-bit-start
-    part-all-seven-bit-end
-    all-seven-bit-requires
-    returns-4
-    low-six-requires
-    returns-5
-    add-u14-at
+    sub-u14-at
     u14-at-requires-2
-    cast-if6
-    add-if6
-    returns-6
-    returns-7)
+    cast-if4
+    add-if4
+    returns-4
+    returns-5)

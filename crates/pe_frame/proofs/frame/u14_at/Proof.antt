@@ -1,44 +1,35 @@
-use Prim.Native.Nat.{_+_}
-use mathlib.Core.Path.{sym}
 use native.Mathlib.Omega.{arith}
 use borrow.Author.Needs.{needs}
+use denote.Ref.{now}
+use Rattle.seven_bit.specs.SevenBit.{numberOf}
+use Rattle.pe_frame.proofs.FieldLaws.{number-two}
 use Rattle.pe_frame.proofs.frame.u14_at.Statement.{statement}
 use Rattle.pe_frame.proofs.frame.u14_at.Tie as tie
-use Rattle.pe_frame.proofs.FieldLaws.{number-two}
 
-shared-slice-read-result : tie.Need-shared-slice-read-result
-shared-slice-read-result c = search needs
+shared-slice-read-join-u14 : tie.Need-shared-slice-read-join-u14
+shared-slice-read-join-u14 c = search needs
 
-cast-result : tie.Need-cast-result
-cast-result c = omega (arith, c .shared-slice-known .given (c .before .args .at))
+add-join-u14 : tie.Need-add-join-u14
+add-join-u14 c = search needs
 
-add-result : tie.Need-add-result
-add-result c = search needs
+shared-slice-read-join-u14-2 : tie.Need-shared-slice-read-join-u14-2
+shared-slice-read-join-u14-2 c = search needs
 
-shared-slice-read-result-2 : tie.Need-shared-slice-read-result-2
-shared-slice-read-result-2 c = search needs
-
-cast-result-2 : tie.Need-cast-result-2
-cast-result-2 c = omega (arith, c .shared-slice-known2 .given (c .before .before .args .at + 1))
-
-mul-result : tie.Need-mul-result
-mul-result c = omega (arith, c .shared-slice-known2 .given (c .before .before .args .at + 1))
-
-add-result-2 : tie.Need-add-result-2
-add-result-2 c = omega (arith, c .before .shared-slice-known .given (c .before .before .args .at), c .shared-slice-known2 .given (c .before .before .args .at + 1))
+join-u14-requires : tie.Need-join-u14-requires
+join-u14-requires c κs = search needs
 
 returns : tie.Need-returns
-returns c = sym (number-two _ _ (c .before .before .pre))
+unfolding numberOf
+returns c =
+    let a = c .before .before .before .before in
+    omega (arith, c .join-u14 .ensures, number-two (now (a .args .«data»)) (a .args .at) (a .pre))
 
 pub u14-at-spec : {M : Type 1} → statement M
 u14-at-spec =
     tie.close
     (tie.spec
-    shared-slice-read-result
-    cast-result
-    add-result
-    shared-slice-read-result-2
-    cast-result-2
-    mul-result
-    add-result-2
+    shared-slice-read-join-u14
+    add-join-u14
+    shared-slice-read-join-u14-2
+    join-u14-requires
     returns)

@@ -9,11 +9,20 @@ slice-aggregate-gather-all c = search needs
 gather-all-requires : tie.Need-gather-all-requires
 gather-all-requires c κs = search needs
 
-slice-aggregate-all-seven-bit : tie.Need-slice-aggregate-all-seven-bit
-slice-aggregate-all-seven-bit c = search needs
+slice-aggregate-gather-ends : tie.Need-slice-aggregate-gather-ends
+slice-aggregate-gather-ends c = search needs
 
-all-seven-bit-requires : tie.Need-all-seven-bit-requires
-all-seven-bit-requires c κs = search needs
+slice-aggregate-gather-ends-2 : tie.Need-slice-aggregate-gather-ends-2
+slice-aggregate-gather-ends-2 c = search needs
+
+gather-ends-requires : tie.Need-gather-ends-requires
+gather-ends-requires c κs = search needs
+
+slice-aggregate-sixteen-low : tie.Need-slice-aggregate-sixteen-low
+slice-aggregate-sixteen-low c = search needs
+
+sixteen-low-requires : tie.Need-sixteen-low-requires
+sixteen-low-requires c κs = search needs
 
 returns : tie.Need-returns
 unfolding isSevenBit
@@ -25,6 +34,9 @@ all-low-spec =
     (tie.spec
     slice-aggregate-gather-all
     gather-all-requires
-    slice-aggregate-all-seven-bit
-    all-seven-bit-requires
+    slice-aggregate-gather-ends
+    slice-aggregate-gather-ends-2
+    gather-ends-requires
+    slice-aggregate-sixteen-low
+    sixteen-low-requires
     returns)

@@ -1,25 +1,24 @@
-use Prim.Native.Nat.{ℕ, _+_, _-_, _≤_}
+use Prim.Native.Nat.{_-_, _≤_}
 use mathlib.Core.Bool.{_&&_}
-use mathlib.Core.Path.{_≡_, refl, ap, _∙_}
+use mathlib.Core.Path.{_≡_}
 use native.Mathlib.Omega.{arith}
 use borrow.Author.Needs.{needs}
 use denote.Ref.{now}
 use lib.ListN.{length, take}
-use Rattle.seven_bit.specs.Parts.{part}
 use Rattle.seven_bit.specs.SevenBit.{isSevenBit}
 use Rattle.pe_frame.proofs.LowLaws.{gathered-none, gathered-block, gathered-last}
 use Rattle.pe_frame.proofs.low.gather_blocks.Statement.{statement}
 use Rattle.pe_frame.proofs.low.gather_blocks.Tie as tie
 
 abbrev Inv-loop : tie.InvT-loop
-Inv-loop bits₀ s at₀ bits at =
-    (at ≤ length s) × (length bits ≡ 32) × (isSevenBit bits ≡ (isSevenBit bits₀ && isSevenBit (take at s)))
+Inv-loop largest₀ s at₀ largest at =
+    (at ≤ length s) × (length largest ≡ 32) × (isSevenBit largest ≡ (isSevenBit largest₀ && isSevenBit (take at s)))
 
 abbrev μ-loop : tie.MeasureT-loop
-μ-loop bits₀ s at₀ bits at = length s - at
+μ-loop largest₀ s at₀ largest at = length s - at
 
 loop-holds : tie.Need-loop-holds Inv-loop μ-loop
-loop-holds c = let a = c .before .before in (omega arith, a .pre .0, gathered-none (now (a .args .bits)) (now (a .args .s)) 0)
+loop-holds c = let a = c .before .before in (omega arith, a .pre .0, gathered-none (now (a .args .largest)) (now (a .args .s)) 0)
 
 add-loop : tie.Need-add-loop Inv-loop μ-loop
 add-loop c = search needs
@@ -40,7 +39,7 @@ loop-again c =
     let a = g .before .before .before .before .before .before .args in (
       omega (arith, g .before .before .loop-test .taken),
       search needs,
-      gathered-block (now (a .bits)) (now (a .s)) _ _ (l .at) 32 (l .inv .2) (g .gather .ensures),
+      gathered-block (now (a .largest)) (now (a .s)) _ _ (l .at) 32 (l .inv .2) (g .gather .ensures),
     )
 
 sub-gather : tie.Need-sub-gather Inv-loop μ-loop
@@ -58,7 +57,7 @@ returns c =
     let l = g .before .before .before .loop in
     let s = g .before .before .before .before .before .before in
     let a = s .args in
-    gathered-last (now (a .bits)) (now (a .s)) _ _ (l .at) 32 (l .inv .2) (g .gather2 .ensures) (s .pre .1)
+    gathered-last (now (a .largest)) (now (a .s)) _ _ (l .at) 32 (l .inv .2) (g .gather2 .ensures) (s .pre .1)
     (omega (arith, l .inv .0, g .before .before .loop-test .left))
 
 pub gather-blocks-spec : {M : Type 1} → statement M

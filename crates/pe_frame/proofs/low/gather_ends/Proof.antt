@@ -1,7 +1,5 @@
-use Prim.Native.Nat.{_≤_}
 use borrow.Author.Needs.{needs}
 use denote.Ref.{now}
-use lib.ListN.{length}
 use Rattle.pe_frame.proofs.LowLaws.{gathered-last}
 use Rattle.pe_frame.proofs.low.gather_ends.Statement.{statement}
 use Rattle.pe_frame.proofs.low.gather_ends.Tie as tie
@@ -23,7 +21,7 @@ returns c =
     let g = c .before .before in
     let f = g .before .before .before .before in
     let a = f .before .before .before .before .args in
-    gathered-last (now (a .bits)) (now (a .s)) _ _ (a .k) (a .k) (f .gather .ensures) (g .gather2 .ensures) (search needs) (search needs)
+    gathered-last (now (a .largest)) (now (a .s)) _ _ (a .k) (a .k) (f .gather .ensures) (g .gather2 .ensures) (search needs) (search needs)
 
 pub gather-ends-spec : {M : Type 1} → statement M
 gather-ends-spec =

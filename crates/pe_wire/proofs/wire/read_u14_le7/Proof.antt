@@ -1,6 +1,8 @@
-use mathlib.Core.Path.{sym}
+use mathlib.Core.Path.{sym, ap, _∙_}
 use native.Mathlib.Omega.{arith}
 use borrow.Author.Needs.{needs}
+use Rattle.seven_bit.specs.Reply.{granted}
+use Rattle.seven_bit.specs.SevenBit.{numberOf}
 use Rattle.pe_wire.proofs.wire.read_u14_le7.Statement.{statement}
 use Rattle.pe_wire.proofs.wire.read_u14_le7.Tie as tie
 use Rattle.pe_wire.proofs.WireLaws.{read-short, read-low, read-high, read-value}
@@ -20,20 +22,12 @@ shared-slice-read-high c = search needs
 returns-3 : tie.Need-returns-3
 returns-3 c = sym (read-high _ (omega arith) (omega arith) (c .if3 .taken))
 
-cast-t12 : tie.Need-cast-t12
-cast-t12 c = search needs
-
-cast-t13 : tie.Need-cast-t13
-cast-t13 c = search needs
-
-mul-t14 : tie.Need-mul-t14
-mul-t14 c = search needs
-
-add-t15 : tie.Need-add-t15
-add-t15 c = search needs
+join-u14-requires : tie.Need-join-u14-requires
+join-u14-requires c κs = search needs
 
 returns-4 : tie.Need-returns-4
-returns-4 c = sym (read-value _ (omega arith) (omega arith) (c .if3 .left))
+unfolding numberOf
+returns-4 c = let e = c .join-u14 .ensures in sym (read-value _ (omega arith) (omega arith) (c .before .if3 .left) ∙ ap granted (omega (arith, e)))
 
 pub read-u14-le7-spec : {M : Type 1} → statement M
 read-u14-le7-spec =
@@ -41,11 +35,8 @@ read-u14-le7-spec =
     (tie.spec
     returns
     shared-slice-read-low
-    returns-2
     shared-slice-read-high
+    returns-2
     returns-3
-    cast-t12
-    cast-t13
-    mul-t14
-    add-t15
+    join-u14-requires
     returns-4)
