@@ -1,7 +1,7 @@
 -- The laws of reading and writing a chunk.
 -- Assumes nothing.
 use Prim.Native.Nat.{ℕ, _+_, _<_, _≤_}
-use mathlib.Core.Bool.{Bool, true, false, _&&_, _||_}
+use mathlib.Core.Bool.{true, false, _||_}
 use mathlib.Core.List.{List, [], _∷_, _++_, append-assoc}
 use mathlib.Core.Logic.{_⊎_, inl, inr}
 use mathlib.Core.Path.{_≡_, refl, sym, ap, _∙_}
@@ -21,7 +21,7 @@ use Rattle.pe_frame.specs.Chunk.{Chunk, Fields, withinCount, readEnd, re
 use Rattle.pe_frame.specs.Write.{askChunk, chunkLen, chunkBytes, putChunk, writeChunk}
 pub use Rattle.pe_frame.specs.Write.{InRange}
 use Rattle.pe_frame.proofs.FieldLaws.{three-fields, read-at, read-yes}
-use Rattle.pe_frame.proofs.LowLaws.{next-part, one-part, from-start, front-part}
+use Rattle.pe_frame.proofs.LowLaws.{past-front, one-part, from-start, front-part}
 
 -- those behind the header, where the bytes of all fields are asked at once
 abbrev pub readCounts : List ℕ → ℕ → Reply Fields
@@ -71,15 +71,11 @@ pub high-size : (s : List ℕ) → 9 ≤ length s → isSevenBit (take 3 s) ≡ 
 unfolding readFields
 high-size s nine f = go (both (leb (getD s 0 0) 127))
   where
-    three : isSevenBit (take 3 s) ≡ (leb (getD s 0 0) 127 && isSevenBit (part 1 2 s))
-    three =
-        next-part 1 2 s
-        ∙ ap (λ (b : Bool). b && isSevenBit (part 1 2 s)) (ap isSevenBit (sym (from-start 1 s)) ∙ one-part s 0 (omega (arith, nine)))
+    first : isSevenBit (take 1 s) ≡ leb (getD s 0 0) 127
+    first = ap isSevenBit (sym (from-start 1 s)) ∙ one-part s 0 (omega (arith, nine))
 
     go : (leb (getD s 0 0) 127 ≡ true) ⊎ (leb (getD s 0 0) 127 ≡ false) → readFields s ≡ refused 1 0
-    go (inl t) =
-        let e : isSevenBit (part 1 2 s) ≡ false = sym (three ∙ ap (λ (b : Bool). b && isSevenBit (part 1 2 s)) t) ∙ f in
-        rw (le-leb _ _ nine, t, read-at s 1 (omega (arith, nine)), e)
+    go (inl t) = rw (le-leb _ _ nine, t, read-at s 1 (omega (arith, nine)), sym (past-front 1 2 s (first ∙ t)) ∙ f)
     go (inr t) = rw (le-leb _ _ nine, t)
 
 -- one of the header's, or of the fields' behind it
@@ -94,13 +90,16 @@ high-counts s nh low e l f = go (both (isSevenBit (take (3 + nh) s)))
     go : (isSevenBit (take (3 + nh) s) ≡ true) ⊎ (isSevenBit (take (3 + nh) s) ≡ false) → readFields s ≡ refused 1 0
     go (inl t) =
         let n : 3 + nh + 6 ≡ 9 + nh = omega arith in
-        let six : isSevenBit (take (3 + nh + 6) s) ≡ isSevenBit (part (3 + nh) 6 s) =
-        next-part (3 + nh) 6 s ∙ ap (λ (b : Bool). b && isSevenBit (part (3 + nh) 6 s)) t in
-        let g : isSevenBit (part (3 + nh) 6 s) ≡ false = sym six ∙ ap (λ (k : ℕ). isSevenBit (take k s)) n ∙ f in
+        let g : isSevenBit (part (3 + nh) 6 s) ≡ false = sym (past-front (3 + nh) 6 s t) ∙ ap (λ (k : ℕ). isSevenBit (take k s)) n ∙ f in
         low-header s nine (3 + nh) t nh (omega arith) e l ∙ rw g
     go (inr t) =
-        let g : isSevenBit (part 3 nh s) ≡ false = sym (next-part 3 nh s ∙ ap (λ (b : Bool). b && isSevenBit (part 3 nh s)) low) ∙ t in
-        rw (le-leb _ _ nine, le-leb _ _ (low-id s nine 3 low (omega arith)), low-size s nine 3 low nh (omega arith) e, le-leb _ _ l, g)
+        rw (
+          le-leb _ _ nine,
+          le-leb _ _ (low-id s nine 3 low (omega arith)),
+          low-size s nine 3 low nh (omega arith) e,
+          le-leb _ _ l,
+          sym (past-front 3 nh s low) ∙ t,
+        )
 
 -- one of the property's, or one too many
 pub high-end : (s : List ℕ) (nh count number nd : ℕ) → isSevenBit (take (9 + nh) s) ≡ true → isSevenBit s ≡ false → 9 + nh + nd ≤ length s
@@ -110,10 +109,8 @@ high-end s nh count number nd low f l = go (both (leb (length s) (9 + nh + nd)))
   where
     go : (leb (length s) (9 + nh + nd) ≡ true) ⊎ (leb (length s) (9 + nh + nd) ≡ false) → readEnd s nh count number nd ≡ refused 1 0
     go (inl t) =
-        let all : isSevenBit (take (9 + nh + nd) s) ≡ isSevenBit (part (9 + nh) nd s) =
-        next-part (9 + nh) nd s ∙ ap (λ (b : Bool). b && isSevenBit (part (9 + nh) nd s)) low in
-        let g : isSevenBit (part (9 + nh) nd s) ≡ false = sym all ∙ ap isSevenBit (take-all (9 + nh + nd) s (leb-true _ _ t)) ∙ f in
-        rw (le-leb _ _ l, t, g)
+        let all : take (9 + nh + nd) s ≡ s = take-all (9 + nh + nd) s (leb-true _ _ t) in
+        rw (le-leb _ _ l, t, sym (past-front (9 + nh) nd s low) ∙ ap isSevenBit all ∙ f)
     go (inr t) = rw (le-leb _ _ l, t)
 
 -- the writer's questions behind those of lengths and numbers

@@ -25,8 +25,12 @@ both-parts (x ∷ xs) ys = go (leb x 127) (both-parts xs ys)
     go true e = e
     go false e = refl
 
-pub next-part : (at k : ℕ) (s : List ℕ) → isSevenBit (take (at + k) s) ≡ (isSevenBit (take at s) && isSevenBit (part at k s))
+next-part : (at k : ℕ) (s : List ℕ) → isSevenBit (take (at + k) s) ≡ (isSevenBit (take at s) && isSevenBit (part at k s))
 next-part at k s = ap isSevenBit (take-add at k s) ∙ both-parts (take at s) (part at k s)
+
+-- behind bytes that are, the question is that of the part
+pub past-front : (at k : ℕ) (s : List ℕ) → isSevenBit (take at s) ≡ true → isSevenBit (take (at + k) s) ≡ isSevenBit (part at k s)
+past-front at k s t = next-part at k s ∙ ap (λ (b : Bool). b && isSevenBit (part at k s)) t
 
 -- one byte
 pub one-part : (s : List ℕ) (i : ℕ) → i < length s → isSevenBit (part i 1 s) ≡ leb (getD s i 0) 127
@@ -44,15 +48,13 @@ front-none [] = refl
 front-none (x ∷ xs) = refl
 
 pub front-next : (s : List ℕ) (i : ℕ) → i < length s → isSevenBit (take i s) ≡ true → getD s i 0 ≤ 127 → isSevenBit (take (i + 1) s) ≡ true
-front-next s i l t h = next-part i 1 s ∙ ap (λ (b : Bool). b && isSevenBit (part i 1 s)) t ∙ one-part s i l ∙ le-leb _ _ h
+front-next s i l t h = past-front i 1 s t ∙ one-part s i l ∙ le-leb _ _ h
 
 front-less : (s : List ℕ) (h n : ℕ) → isSevenBit (take h s) ≡ true → n ≤ h → isSevenBit (take n s) ≡ true
 front-less s h n t l = ap isSevenBit (sym (take-take n h s l)) ∙ seven-bit-take n (take h s) t
 
 pub front-part : (s : List ℕ) (h a k : ℕ) → isSevenBit (take h s) ≡ true → a + k ≤ h → isSevenBit (part a k s) ≡ true
-front-part s h a k t l =
-    sym (next-part a k s ∙ ap (λ (b : Bool). b && isSevenBit (part a k s)) (front-less s h a t (omega arith)))
-    ∙ front-less s h (a + k) t l
+front-part s h a k t l = sym (past-front a k s (front-less s h a t (omega arith))) ∙ front-less s h (a + k) t l
 
 -- a byte that is not
 pub high-at : (s : List ℕ) (i : ℕ) → 127 < getD s i 0 → isSevenBit s ≡ false
