@@ -176,7 +176,8 @@ ask-then {A} {B} c x next =
     (then-else (withinCount (c .chunk-num) (c .num-chunks)) 8 (granted x) (next x) next refl)))))))))
 
 -- a refusal of the questions is that of all that follows them
-pub ask-refused : {A B : Type 0} (c : Chunk) (x : A) (next : Reply B) (number value : ℕ) → askChunk c (granted x) ≡ refused number value → askChunk c next ≡ refused number value
+pub ask-refused : {A B : Type 0} (c : Chunk) (x : A) (next : Reply B) (number value : ℕ) → askChunk c (granted x) ≡ refused number value
+    → askChunk c next ≡ refused number value
 ask-refused {A} {B} c x next number value q = sym (ask-then c x (λ (y : A). next)) ∙ ap (λ (r : Reply A). andThen r (λ (y : A). next)) q
 
 -- a chunk whose numbers have 14 bits is stored where it fits
@@ -243,7 +244,8 @@ module _ (c : Chunk) where
 pub put-on : (out after ys zs : List ℕ) (at b : ℕ) → after ≡ put out at ys → b ≡ at + length ys → put after b zs ≡ put out at (ys ++ zs)
 put-on out after ys zs at b e h = ap (λ (l : List ℕ). put l b zs) e ∙ put-put out at ys zs b h
 
-pub fit-on : (out after ys zs : List ℕ) (at b : ℕ) → after ≡ put out at ys → b ≡ at + length ys → b + length zs ≤ length out → putFit after b zs ≡ put out at (ys ++ zs)
+pub fit-on : (out after ys zs : List ℕ) (at b : ℕ) → after ≡ put out at ys → b ≡ at + length ys → b + length zs ≤ length out
+    → putFit after b zs ≡ put out at (ys ++ zs)
 fit-on out after ys zs at b e h r =
     fit-yes after b zs (rw (e, length-put out at ys) r)
     ∙ put-on out after ys zs at b e h

@@ -37,7 +37,8 @@ pub read-yes : (s : List ℕ) (at v : ℕ) → at + 2 ≤ length s → isSevenBi
 read-yes s at v h t e = rw (read-at s at h, t, e)
 
 -- the first two bytes of a part, and its others
-two-first : (s : List ℕ) (at k : ℕ) → at + 2 ≤ length s → isSevenBit (part at (suc (suc k)) s) ≡ cond (isSevenBit (part at 2 s)) (isSevenBit (part (at + 2) k s)) false
+two-first : (s : List ℕ) (at k : ℕ) → at + 2 ≤ length s
+    → isSevenBit (part at (suc (suc k)) s) ≡ cond (isSevenBit (part at 2 s)) (isSevenBit (part (at + 2) k s)) false
 unfolding isSevenBit
 two-first s at k h =
     let e : at + 1 + 1 ≡ at + 2 = omega arith in
@@ -69,7 +70,8 @@ three-fields {A} s at next h =
       two-first s (at + 2) 2 (omega arith),
       e,
     )
-    (go (isSevenBit (part at 2 s)) (isSevenBit (part (at + 2) 2 s)) (isSevenBit (part (at + 4) 2 s)) (numberOf (part at 2 s)) (numberOf (part (at + 2) 2 s)) (numberOf (part (at + 4) 2 s)))
+    (go (isSevenBit (part at 2 s)) (isSevenBit (part (at + 2) 2 s)) (isSevenBit (part (at + 4) 2 s))
+    (numberOf (part at 2 s)) (numberOf (part (at + 2) 2 s)) (numberOf (part (at + 4) 2 s)))
   where
     go : (p q r : Bool) (a b c : ℕ) →
         andThen (p else 1 then granted a) (λ x. andThen (q else 1 then granted b) (λ y. andThen (r else 1 then granted c) (λ z. next x y z)))

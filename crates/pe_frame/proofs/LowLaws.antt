@@ -117,7 +117,8 @@ module _ (largest₀ s : List ℕ) where
   unfolding isSevenBit
   gathered-none at = sym (ap (λ (t : List ℕ). isSevenBit largest₀ && isSevenBit t) (part-none at s) ∙ and-true (isSevenBit largest₀))
 
-  pub gathered-byte : (largest : List ℕ) (at i : ℕ) → isSevenBit largest ≡ (isSevenBit largest₀ && isSevenBit (part at i s)) → i < length largest → at + i < length s
+  pub gathered-byte : (largest : List ℕ) (at i : ℕ) → isSevenBit largest ≡ (isSevenBit largest₀ && isSevenBit (part at i s))
+      → i < length largest → at + i < length s
       → isSevenBit (set largest i (max (getD largest i 0) (getD s (at + i) 0))) ≡ (isSevenBit largest₀ && isSevenBit (part at (i + 1) s))
   gathered-byte largest at i e h l =
       gather-at largest i (getD s (at + i) 0) h

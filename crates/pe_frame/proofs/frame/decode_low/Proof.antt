@@ -34,8 +34,8 @@ behind : (c : tie.After-u14-at4)
     → readFields (bytes (start c)) ≡ readEnd (bytes (start c)) (nh c) (c .before .before .u14-at2 .result) (c .before .u14-at3 .result) (c .u14-at4 .result)
 behind c =
     let a = start c in
-    let u = c .before .before .before .before .u14-at in
-    low-fields (bytes a) (a .pre .0) (length (bytes a)) (all a) _ _ _ _ (c .before .before .before .if1 .left) (u .ensures) (c .before .before .before .if1 .left)
+    let l = c .before .before .before .if1 .left in
+    low-fields (bytes a) (a .pre .0) (length (bytes a)) (all a) _ _ _ _ l (c .before .before .before .before .u14-at .ensures) l
     (c .before .before .u14-at2 .ensures) (c .before .u14-at3 .ensures) (c .u14-at4 .ensures)
 
 property : (c : tie.After-u14-at4) → isSevenBit (part (9 + nh c) (c .u14-at4 .result) (bytes (start c))) ≡ true
