@@ -18,7 +18,7 @@ static bool is_seven_bit(const struct lent *bytes)
 
 static uint32_t budget_of(uint32_t max_sysex)
 {
-    uint32_t limit = max_sysex < 128 ? 128 : max_sysex > 4096 ? 4096 : max_sysex;
+    uint32_t limit = max_sysex < 128 ? 128 : max_sysex > 16384 ? 16384 : max_sysex;
     return limit - 15;
 }
 
@@ -27,7 +27,7 @@ midici_pe_answer model_chunk_count(uint8_t request_id, const struct lent *header
 {
     if (request_id > 0x7F || !is_seven_bit(header) || !is_seven_bit(body))
         return answer(1, 0, 0);
-    if (header->len > 16383 || header->len + 9 > budget_of(max_sysex))
+    if (header->len > 4096 || header->len + 9 > budget_of(max_sysex))
         return answer(4, 0, 0);
     size_t later = budget_of(max_sysex) - 9, first = later - header->len;
     size_t count = body->len <= first ? 1 : 1 + (body->len - first + later - 1) / later;

@@ -43,8 +43,8 @@
 #include <stdint.h>
 
 #define MIDICI_PE_VERSION_MAJOR 0
-#define MIDICI_PE_VERSION_MINOR 5
-#define MIDICI_PE_VERSION_PATCH 1
+#define MIDICI_PE_VERSION_MINOR 6
+#define MIDICI_PE_VERSION_PATCH 0
 
 /* More stack than any call takes (make sizes measures each). */
 #define MIDICI_PE_STACK_BYTES 8192
@@ -159,8 +159,8 @@ typedef struct midici_pe_request_id {
 /* ---- Sending ---- */
 
 /* The longest chunk that is cut, and the longest message with such a chunk (F0 and F7 come on top of it). */
-#define MIDICI_PE_CHUNK_LEN 4081
-#define MIDICI_PE_MESSAGE_LEN 4094
+#define MIDICI_PE_CHUNK_LEN 16369
+#define MIDICI_PE_MESSAGE_LEN 16382
 
 /* The bytes of a CI header. */
 #define MIDICI_PE_CI_HEADER_LEN 13
@@ -175,9 +175,10 @@ typedef struct midici_pe_request_id {
 midici_pe_request_id midici_pe_alloc_out_request_id(uint8_t counter);
 
 /* `count` is how many chunks the header and the body are cut into (1 to 16,383). No message with one of them is longer than
- * `max_sysex` bytes, F0 and F7 included; `max_sysex` is taken as 128 if it is less, and as 4,096 if it is more.
- * Refusals: 1 request_id above 7F, or a byte of the header or the body above 7F; 4 the header does not fit into the first
- * chunk; 5 more than 16,383 chunks. */
+ * `max_sysex` bytes, F0 and F7 included; `max_sysex` is taken as 128 if it is less, and as 16,384 if it is more. So name
+ * what the receiver says that it takes, and not more.
+ * Refusals: 1 request_id above 7F, or a byte of the header or the body above 7F; 4 the header has more than
+ * MIDICI_PE_HEADER_BYTES, for which no table has room, or does not fit into the first chunk; 5 more than 16,383 chunks. */
 midici_pe_answer midici_pe_chunk_count(uint8_t request_id, const uint8_t *header, size_t header_len, const uint8_t *body,
                                        size_t body_len, uint32_t max_sysex);
 

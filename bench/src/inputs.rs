@@ -1,6 +1,8 @@
 //! What is measured on, the same bytes for both sides, from a fixed seed.
-use midici_pe::chunker::split;
+use midici_pe::chunker;
 use midici_pe::frame::PeChunk;
+use oracle::cut;
+use oracle::input;
 use oracle::layout::FRAGMENT_RECORDS;
 use oracle::rng::Rng;
 
@@ -70,9 +72,10 @@ pub struct List {
 }
 
 impl List {
-    /// The four lists.
-    pub fn all() -> [&'static List; 4] {
-        [(1_000, 256), (65_536, 128), (65_536, 256), (65_536, 4_096)].map(|(len, max_sysex)| List::new(len, max_sysex))
+    /// The five lists.
+    pub fn all() -> [&'static List; 5] {
+        [(1_000, 256), (65_536, 128), (65_536, 256), (65_536, 4_096), (65_536, 16_384)]
+            .map(|(len, max_sysex)| List::new(len, max_sysex))
     }
 
     pub fn new(body_len: usize, max_sysex: u32) -> &'static List {
@@ -84,8 +87,15 @@ impl List {
         format!("{} bytes at {}", self.body.len(), self.max_sysex)
     }
 
+    /// Cut by the Rust, or at a limit above 4,096, where it does not cut, by the oracle's plain cutter.
     pub fn chunks(&self) -> Vec<Vec<u8>> {
-        split(REQUEST_ID, &self.header, &self.body, self.max_sysex).expect("a list that can be cut")
+        let List { header, body, max_sysex } = self;
+        let chunks = if cut::is_larger(*max_sysex) {
+            cut::split(input::List { request_id: REQUEST_ID, max_sysex: *max_sysex, header, body }).ok()
+        } else {
+            chunker::split(REQUEST_ID, header, body, *max_sysex).ok()
+        };
+        chunks.expect("a list that can be cut")
     }
 
     /// The same, but that the last one alone tells the count.

@@ -4,7 +4,7 @@
 
 #include <string.h>
 
-enum { SMALL = 4096, LARGE = 65536 + 64, MOST_HEADER = 20000, MOST_BODY = 4 * SMALL, MOST_OUT = 48000 };
+enum { SMALL = 4096, LARGE = 65536 + 64, MOST_HEADER = 20000, MOST_BODY = 40000, MOST_OUT = 48000 };
 
 unsigned take(struct input *input)
 {
@@ -38,6 +38,12 @@ uint64_t take_number(struct input *input)
     default:
         return take(input) % 8;
     }
+}
+
+uint32_t take_limit(struct input *input)
+{
+    unsigned choice = take(input);
+    return (uint32_t)(choice < 128 ? take(input) : choice < 192 ? take_bits(input, 2) : take_number(input));
 }
 
 uint32_t take_muid(struct input *input)
@@ -121,7 +127,7 @@ static void make_rooms(struct lending *lending, size_t len)
     for (int slice = 0; slice < LENT; slice++)
         lent_make(&lending->table.lent[slice], len);
     lent_make(&lending->header, MOST_HEADER);
-    lent_make(&lending->body, 20000);
+    lent_make(&lending->body, MOST_BODY);
     lent_make(&lending->out, MOST_OUT);
     lent_make(&lending->places, SMALL);
     lent_make(&lending->lengths, SMALL);

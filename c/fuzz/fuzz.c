@@ -107,7 +107,7 @@ static void call_split(struct input *input, struct lending *lending)
     struct lent *header = &lending->header, *body = &lending->body, *out = &lending->out, *lengths = &lending->lengths;
     choose_list(input, lending);
     uint8_t request_id = (uint8_t)(take(input) % 130);
-    uint32_t max_sysex = take(input) < 128 ? take(input) : (uint32_t)take_number(input);
+    uint32_t max_sysex = take_limit(input);
     choose_chunk_room(input, lending, model_chunk_count(request_id, header, body, max_sysex).count);
     midici_pe_cut answer = midici_pe_split(request_id, header->at, header->len, body->at, body->len, max_sysex, out->at,
                                            out->len, lent_u16s(lengths), lengths->len / 2);
@@ -125,7 +125,7 @@ static void call_split_chunk(struct input *input, struct lending *lending)
     struct lent *header = &lending->header, *body = &lending->body, *out = &lending->out;
     choose_list(input, lending);
     uint8_t request_id = (uint8_t)(take(input) % 130);
-    uint32_t max_sysex = take(input) < 128 ? take(input) : (uint32_t)take_number(input);
+    uint32_t max_sysex = take_limit(input);
     uint16_t chunk_num = (uint16_t)(take(input) < 240 ? take(input) % 9 : take_bits(input, 2));
     midici_pe_answer count = midici_pe_chunk_count(request_id, header->at, header->len, body->at, body->len, max_sysex);
     must(same_answer(count, model_chunk_count(request_id, header, body, max_sysex)), "chunk_count");

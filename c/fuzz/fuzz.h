@@ -26,6 +26,9 @@ uint64_t take_bits(struct input *input, int bytes);
 /* A number: most often a small one. */
 uint64_t take_number(struct input *input);
 
+/* A limit for messages: most often a small one, or one of two bytes. */
+uint32_t take_limit(struct input *input);
+
 /* A MUID: most often one of a few. */
 uint32_t take_muid(struct input *input);
 

@@ -13,7 +13,7 @@ int checks_done(void);
 /* A chunk or a message, as bytes. */
 struct bytes {
     size_t len;
-    uint8_t at[4200];
+    uint8_t at[MIDICI_PE_MESSAGE_LEN];
 };
 
 /* The fields of a chunk; header and property as text. */

@@ -10,10 +10,19 @@ enum {
     MOST_HEADER = 16384,
     MOST_BODY = MOST_CHUNKS * 104 + 1,
     EXTRA = 3,
-    LISTS = 3000,
     MESSAGES = 20000,
-    LISTED_BODY = 2500, /* of random lists */
-    LISTED_CHUNKS = LISTED_BODY / 104 + 2
+    LISTED_CHUNKS = MIDICI_PE_TX_BYTES / 104 + 2 /* of random lists */
+};
+
+/* Random lists: how many, and the most that limit, header and body have. */
+static const struct sizes {
+    const char *name;
+    int lists;
+    uint32_t max_sysex;
+    size_t header_len, body_len;
+} sizes[] = {
+    {"random lists", 3000, 599, 129, 2500},
+    {"larger random lists", 300, 20000, MIDICI_PE_HEADER_BYTES + 100, MIDICI_PE_TX_BYTES},
 };
 
 /* A list, its limit, and what is lent for its chunks. */
@@ -122,7 +131,10 @@ static const struct split_case {
     {"at once: only a body", 1, 0, 0, 300, 0x7F, 256, 0, 2},
     {"at once: a header that leaves nothing", 1, 104, 0, 100, 0, 128, 0, 2},
     {"at once: a header that leaves nothing, and no body", 1, 104, 0, 0, 0, 128, 0, 1},
-    {"at once: the longest chunks", 1, 4072, 0, 3 * 4072, 0, UINT32_MAX, 0, 4},
+    {"at once: chunks at 4,096", 1, 4072, 0, 3 * 4072, 0, 4096, 0, 4},
+    {"at once: the longest header and chunks", 1, 4096, 0, 12264 + 3 * 16360, 0, UINT32_MAX, 0, 4},
+    {"at once: one byte more than they hold", 1, 4096, 0, 12264 + 3 * 16360 + 1, 0, 16384, 0, 5},
+    {"at once: the longest body", 1, 48, 0, 65536, 0, 16384, 0, 5},
     {"at once: a last chunk of one byte", 1, 10, 0, 94 + 104 + 1, 0, 0, 0, 3},
     {"at once: 200 chunks", 1, 0, 0, 200 * 104, 0, 128, 0, 200},
     {"at once: 16,383 chunks", 1, 0, 0, MOST_CHUNKS * 104, 0, 128, 0, MOST_CHUNKS},
@@ -136,6 +148,7 @@ static const struct split_case {
     {"at once: body byte, behind the first chunk", 1, 48, 0, 1000, 0xFF, 256, 1, 0},
     {"at once: body byte, asked before the header's length", 1, 16384, 0, 10, 0xFF, 256, 1, 0},
     {"at once: body byte, asked before the budget", 1, 105, 0, 10, 0xFF, 128, 1, 0},
+    {"at once: a header of 4,097, which would fit", 1, 4097, 0, 10, 0, 16384, 4, 0},
     {"at once: a header of 16,384", 1, 16384, 0, 10, 0, 4096, 4, 0},
     {"at once: a header one too long", 1, 105, 0, 100, 0, 128, 4, 0},
 };
@@ -202,13 +215,13 @@ static void check_arrives(struct lending *l, struct table *table, uint64_t *seed
 }
 
 /* One random list; its refusal. */
-static uint8_t test_random_list(struct lending *l, struct table *table, uint64_t *seed)
+static uint8_t test_random_list(struct lending *l, const struct sizes *most, struct table *table, uint64_t *seed)
 {
-    const char *of = "random lists";
+    const char *of = most->name;
     l->request_id = (uint8_t)any_below(seed, any_below(seed, 16) == 0 ? 256 : 128);
-    l->max_sysex = (uint32_t)any_below(seed, 600);
-    choose_letters(seed, &l->header, any_below(seed, 130));
-    choose_letters(seed, &l->body, any_below(seed, LISTED_BODY + 1));
+    l->max_sysex = (uint32_t)any_below(seed, most->max_sysex + 1);
+    choose_letters(seed, &l->header, any_below(seed, most->header_len + 1));
+    choose_letters(seed, &l->body, any_below(seed, most->body_len + 1));
     check_chunks(l, of);
     midici_pe_answer count = model_chunk_count(MODEL(l));
     size_t bytes = l->header.len + l->body.len + 9 * (size_t)count.count, chunks = (size_t)count.count;
@@ -221,16 +234,17 @@ static uint8_t test_random_list(struct lending *l, struct table *table, uint64_t
     return count.refusal;
 }
 
-static void test_random_lists(struct lending *l, uint64_t *seed)
+static void test_random_lists(struct lending *l, const struct sizes *most, uint64_t *seed)
 {
     unsigned long answered[256] = {0};
     struct table table;
-    table_make(&table, (midici_pe_shape){1, 512, LISTED_BODY, LISTED_CHUNKS}, 0);
-    for (int i = 0; i < LISTS; i++)
-        answered[test_random_list(l, &table, seed)]++;
-    check(answered[0] > 0 && answered[1] > 0 && answered[4] > 0, "some are cut, some refused", "random lists");
-    printf("%d random lists: %lu cut and whole again, %lu refused for a byte above 7F, %lu for their header's length\n",
-           LISTS, answered[0], answered[1], answered[4]);
+    size_t header_bytes = most->header_len < MIDICI_PE_HEADER_BYTES ? most->header_len : MIDICI_PE_HEADER_BYTES;
+    table_make(&table, (midici_pe_shape){1, header_bytes, most->body_len, LISTED_CHUNKS}, 0);
+    for (int i = 0; i < most->lists; i++)
+        answered[test_random_list(l, most, &table, seed)]++;
+    check(answered[0] > 0 && answered[1] > 0 && answered[4] > 0, "some are cut, some refused", most->name);
+    printf("%d %s: %lu cut and whole again, %lu refused for a byte above 7F, %lu for their header's length\n", most->lists,
+           most->name, answered[0], answered[1], answered[4]);
     table_free(&table);
 }
 
@@ -312,7 +326,8 @@ void test_splitting(uint64_t seed)
     lent_make(&lending.chunk, MIDICI_PE_CHUNK_LEN);
     for (size_t i = 0; i < sizeof split_cases / sizeof split_cases[0]; i++)
         test_split_case(&lending, &split_cases[i]);
-    test_random_lists(&lending, &seed);
+    for (size_t i = 0; i < sizeof sizes / sizeof sizes[0]; i++)
+        test_random_lists(&lending, &sizes[i], &seed);
     test_random_messages(&lending, &seed);
     lent_free(&lending.header);
     lent_free(&lending.body);

@@ -1,13 +1,13 @@
 //! Chunks beyond their count and property bytes above 7F: a reading of document 02's sentences (K3). Each function puts
 //! document 01's questions in their order, and K3's among them where its sentences say. Where the first no is to one of K3's, the
 //! original gives another answer: such an input is left out of the comparison with the original, and held against this reading.
-use crate::input::{Chunk, List, Whole};
+use crate::input::{Chunk, Whole};
 use crate::layout::HEADER_BYTES;
 use crate::outcome::Refusal;
 use midici_pe::reassembler::probe::Slot;
 use std::fmt;
 
-/// What K3 turns down.
+/// Why the original's answer does not stand: what K3 turns down, or K6's limit.
 #[derive(Clone, Copy, Debug, PartialEq, Eq, PartialOrd, Ord)]
 pub enum Beyond {
     /// "Property bytes above 7F give 1".
@@ -18,11 +18,14 @@ pub enum Beyond {
     KnownCount,
     /// "and so does a new count below a number already held".
     HeldNumber,
+    /// K6: "The upper clamp rises to 16,384".
+    Limit,
 }
 
-/// What the functions turn down that read or write a chunk, the cutter, and a slot.
+/// Why those of the functions do not stand that read or write a chunk, the cutter's, its capacities', and a slot's.
 pub const OF_CHUNK: [Beyond; 2] = [Beyond::PropertyByte, Beyond::OwnCount];
-pub const OF_CUTTER: [Beyond; 1] = [Beyond::PropertyByte];
+pub const OF_CUTTER: [Beyond; 2] = [Beyond::PropertyByte, Beyond::Limit];
+pub const OF_CAPACITY: [Beyond; 1] = [Beyond::Limit];
 pub const OF_SLOT: [Beyond; 4] = [Beyond::PropertyByte, Beyond::OwnCount, Beyond::KnownCount, Beyond::HeldNumber];
 
 impl Beyond {
@@ -39,6 +42,7 @@ impl fmt::Display for Beyond {
             Beyond::OwnCount => "own count",
             Beyond::KnownCount => "known count",
             Beyond::HeldNumber => "number held",
+            Beyond::Limit => "limit above 4,096",
         })
     }
 }
@@ -55,7 +59,7 @@ pub type Asked<T = ()> = Result<T, No>;
 pub type Reading = fn(&[u8]) -> Asked<Vec<u64>>;
 
 /// One of document 01's questions, with the number of its no.
-fn ask(yes: bool, number: u8) -> Asked {
+pub fn ask(yes: bool, number: u8) -> Asked {
     ask_with_value(yes, number, 0)
 }
 
@@ -64,12 +68,12 @@ fn ask_with_value(yes: bool, number: u8, value: u8) -> Asked {
 }
 
 /// One of K3's.
-fn ask_beyond(yes: bool, beyond: Beyond) -> Asked {
+pub fn ask_beyond(yes: bool, beyond: Beyond) -> Asked {
     let number = if beyond == Beyond::PropertyByte { 1 } else { 8 };
     yes.then_some(()).ok_or(No { refusal: Refusal { number, value: 0 }, beyond: Some(beyond) })
 }
 
-fn up_to_7f(bytes: &[u8]) -> bool {
+pub fn up_to_7f(bytes: &[u8]) -> bool {
     bytes.iter().all(|b| *b <= 0x7F)
 }
 
@@ -129,50 +133,6 @@ pub fn write_message(whole: Whole, room: usize) -> Asked<usize> {
     ask(whole.source < 1 << 28 && whole.dest < 1 << 28, 28)?;
     ask_with_value(matches!(whole.sub_id2, 0x34..=0x39 | 0x3F), 24, whole.sub_id2)?;
     write_behind(13, whole.chunk, room)
-}
-
-/// A list that is cut: how many chunks it has, and how many body bytes the first carries, and a later one.
-pub struct Cut {
-    pub chunks: usize,
-    first: usize,
-    later: usize,
-}
-
-/// "Request id? 1. Header bytes? 1." Here K3: "after the header bytes in .. cutting". "Header up to 16,383? 4. Header + 9 within
-/// budget? 4. At most 16,383 frames? 5." And: "Limit clamped to 128..4,096; budget is limit − 15; later frames carry budget − 9,
-/// the first budget − 9 − header length."
-pub fn cut(list: List) -> Asked<Cut> {
-    ask(list.request_id <= 0x7F, 1)?;
-    ask(up_to_7f(list.header), 1)?;
-    ask_beyond(up_to_7f(list.body), Beyond::PropertyByte)?;
-    ask(list.header.len() <= 16_383, 4)?;
-    let budget = list.max_sysex.clamp(128, 4_096) as usize - 15;
-    ask(list.header.len() + 9 <= budget, 4)?;
-    let (first, later) = (budget - 9 - list.header.len(), budget - 9);
-    let chunks = 1 + list.body.len().saturating_sub(first).div_ceil(later);
-    ask(chunks <= 16_383, 5)?;
-    Ok(Cut { chunks, first, later })
-}
-
-/// "Is k from 1 to the count? 29. Buffer long enough? 3." How many bytes chunk k takes.
-pub fn cut_chunk(list: List, k: usize, room: usize) -> Asked<usize> {
-    let Cut { chunks, first, later } = cut(list)?;
-    ask((1..=chunks).contains(&k), 29)?;
-    let need = match k {
-        1 => 9 + list.header.len() + list.body.len().min(first),
-        _ => 9 + (list.body.len() - first - (k - 2) * later).min(later),
-    };
-    ask(room >= need, 3)?;
-    Ok(need)
-}
-
-/// All chunks at once, one behind the other, and their lengths: how many chunks, and how many bytes. Where the room for the bytes
-/// or for the lengths is too short it is 3, asked last.
-pub fn cut_all(list: List, room: usize, lengths_room: usize) -> Asked<(usize, usize)> {
-    let chunks = cut(list)?.chunks;
-    let need = list.header.len() + list.body.len() + 9 * chunks;
-    ask(room >= need && lengths_room >= chunks, 3)?;
-    Ok((chunks, need))
 }
 
 /// "Frame 1: header at most H? 4. No header yet, or the same? 8 .. Count 0, or none known, or the same? 8". Then K3: "In a

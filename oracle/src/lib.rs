@@ -3,6 +3,7 @@
 pub mod beyond;
 pub mod call;
 pub mod case;
+pub mod cut;
 pub mod damage;
 pub mod export;
 mod functions;

@@ -1,5 +1,5 @@
 //! The functions that are compared, a row for each.
-use crate::beyond::{Beyond, Reading, OF_CHUNK, OF_CUTTER};
+use crate::beyond::{Beyond, Reading, OF_CAPACITY, OF_CHUNK, OF_CUTTER};
 use crate::export::{export, Export};
 use crate::functions::{chunks, controller, cutter, json, mcoded7, messages, muids, records, syx, wire};
 use crate::inputs::{self, Each};
@@ -13,12 +13,14 @@ pub struct Row {
     /// All inputs, or those at the boundaries.
     pub inputs: fn(Each),
     pub random: fn(&mut Rng) -> Vec<u8>,
-    /// The original's answer to an input, with the output that is lent.
+    /// The original's answer to an input, with the output that is lent; of K6's limits the answer of a reading.
     pub original: fn(&[u8], Vec<u8>) -> Outcome,
     /// Has the original such a function? Else a reading of document 02 stands in for it.
     pub in_original: bool,
     /// The reading of document 02 where K3 brings it a question.
     pub reading: Option<Reading>,
+    /// Where its input has the limit, if it has one.
+    pub limit_at: Option<usize>,
     /// Has it so few inputs that all are compared?
     pub all_compared: bool,
     /// How many bytes of output it is lent, by its input.
@@ -44,6 +46,7 @@ const fn row(
         original,
         in_original: true,
         reading: None,
+        limit_at: None,
         all_compared: false,
         room: inputs::no_room,
         tells_whether: false,
@@ -74,6 +77,16 @@ impl Row {
     /// K3 brings it these questions.
     const fn beyond(self, beyond: &'static [Beyond], reading: Reading) -> Row {
         Row { export: Export { beyond, ..self.export }, reading: Some(reading), ..self }
+    }
+
+    /// Its input has the limit from this byte on: K6 brings it larger ones.
+    const fn limit_at(self, at: usize) -> Row {
+        Row { limit_at: Some(at), ..self }
+    }
+
+    /// It is one of the capacities: its input begins with the limit.
+    const fn capacity(self) -> Row {
+        Row { export: Export { beyond: &OF_CAPACITY, ..self.export }, ..self.limit_at(0) }
     }
 
     const fn not_in_original(self) -> Row {
@@ -174,18 +187,20 @@ functions! {
     ChunkRewrite: row("codec_rewrite", &[2, 1, 8, 3], chunks::to_rewrite, chunks::random_to_rewrite,
         chunks::rewrite).beyond(&OF_CHUNK, chunks::rewrite_by_02).writes();
     /// Limit (4); so too the next two.
-    ClampMaxSysex: row("codec_clamp_max_sysex", &[], cutter::limits, cutter::random_limit, cutter::clamp_max_sysex);
-    PePayloadBudget: row("codec_pe_payload_budget", &[], cutter::limits, cutter::random_limit, cutter::pe_payload_budget);
-    LaterCapacity: row("codec_later_chunk_property_capacity", &[], cutter::limits, cutter::random_limit, cutter::later_capacity);
+    ClampMaxSysex: row("codec_clamp_max_sysex", &[], cutter::limits, cutter::random_limit, cutter::clamp_max_sysex).capacity();
+    PePayloadBudget: row("codec_pe_payload_budget", &[], cutter::limits, cutter::random_limit,
+        cutter::pe_payload_budget).capacity();
+    LaterCapacity: row("codec_later_chunk_property_capacity", &[], cutter::limits, cutter::random_limit,
+        cutter::later_capacity).capacity();
     /// Limit (4), the header's length (8).
     FirstCapacity: row("codec_first_chunk_property_capacity", &[4], cutter::header_lengths, cutter::random_header_length,
-        cutter::first_capacity);
+        cutter::first_capacity).capacity();
     /// LIST.
     ChunkCount: row("midici_pe_chunk_count", &[1, 4, 5], cutter::to_count, cutter::random_to_count,
-        cutter::chunk_count).beyond(&OF_CUTTER, cutter::chunk_count_by_02);
+        cutter::chunk_count).beyond(&OF_CUTTER, cutter::chunk_count_by_02).limit_at(1);
     /// Room (2), chunk number (2), LIST.
     SplitChunk: row("midici_pe_split_chunk", &[1, 4, 5, 29, 3], cutter::to_split, cutter::random_to_split,
-        cutter::split_chunk).beyond(&OF_CUTTER, cutter::split_chunk_by_02).writes();
+        cutter::split_chunk).beyond(&OF_CUTTER, cutter::split_chunk_by_02).limit_at(5).writes();
     /// Room (2), kind, source (4), destination (4), CHUNK.
     WholeEncode: row("midici_pe_encode_message", &[28, 24, 1, 8, 3], chunks::whole_to_encode, chunks::random_whole_to_encode,
         chunks::whole_encode).beyond(&OF_CHUNK, chunks::whole_encode_by_02).writes();
@@ -200,7 +215,7 @@ functions! {
         json::find).not_in_original().tells_whether().not_replayed();
     /// Room for the chunks (4), places for their lengths (2), LIST.
     Split: row("midici_pe_split", &[1, 4, 5, 3], cutter::to_split_all, cutter::random_to_split_all,
-        cutter::split_all).beyond(&OF_CUTTER, cutter::split_all_by_02).writes_chunks().not_replayed();
+        cutter::split_all).beyond(&OF_CUTTER, cutter::split_all_by_02).limit_at(7).writes_chunks().not_replayed();
 }
 
 impl Op {

@@ -1,13 +1,13 @@
-//! A list cut. The Rust gives all chunks in one new list. The port writes them one behind the other into one output, with their
-//! lengths, in one call; or it counts them, and then writes them one by one into one buffer.
-use crate::inputs::{List, REQUEST_ID};
+//! A list cut. The Rust gives all chunks in one new list; at 16,384, where it does not cut, a plain Rust cutter does (oracle/src/cut.rs).
+//! The port writes them one behind the other into one output, with their lengths, in one call; or it counts them, and then writes them
+//! one by one into one buffer.
+use crate::inputs::List;
 use crate::port;
 use crate::row::{Row, Side};
-use midici_pe::chunker::split;
 use std::hint::black_box;
 
 /// The longest chunk.
-const ROOM: usize = 4_096;
+const ROOM: usize = 16_384;
 
 pub fn each(visit: &mut impl FnMut(Row)) {
     for list in List::all() {
@@ -20,8 +20,7 @@ pub fn each(visit: &mut impl FnMut(Row)) {
 
 fn by_rust(list: &'static List) -> impl Side {
     move || {
-        let List { header, body, max_sysex } = black_box(list);
-        let _ = black_box(split(REQUEST_ID, header, body, *max_sysex));
+        black_box(black_box(list).chunks());
     }
 }
 

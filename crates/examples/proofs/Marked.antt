@@ -1,6 +1,6 @@
 -- Document 01's marked examples hold.
 -- Assumes nothing.
-use Prim.Native.Nat.{ℕ, suc, _+_, _-_, _*_, _/_, min, _≤_}
+use Prim.Native.Nat.{ℕ, zero, suc, _+_, _-_, _*_, _/_, min, _≤_}
 use mathlib.Core.Bool.{true}
 use mathlib.Core.List.{List, [], _∷_}
 use mathlib.Core.Path.{_≡_, refl, ap, _∙_}
@@ -13,8 +13,8 @@ use Rattle.midici_core.specs.Muid.{readMuid}
 use Rattle.pe_wire.specs.Wire.{readU14, writeU14}
 use Rattle.pe_frame.specs.Chunk.{withinCount, readEnd, readFields, readChunk}
 use Rattle.pe_frame.specs.Write.{chunkBytes}
-use Rattle.pe_chunker.specs.Cut.{clamped, budget, laterCapacity, firstCapacity, askFirst, bodyPieces, chunkAt, cutCount}
-use Rattle.pe_chunker.proofs.AskLaws.{cut-wide, cut-asked}
+use Rattle.pe_chunker.specs.Cut.{maxSysexMax, clamped, budget, laterCapacity, firstCapacity, askFirst, bodyPieces, chunkAt, cutCount}
+use Rattle.pe_chunker.proofs.AskLaws.{cut-long, cut-wide, cut-asked}
 use Rattle.pe_chunker.proofs.PieceLaws.{pieces-count}
 use Rattle.pe_chunker.proofs.CutLaws.{budget-between}
 use Rattle.pe_chunker.proofs.Theorems.{property-length, budget-is-room, chunk-reads-back}
@@ -32,7 +32,13 @@ record Sized (id : ℕ) (header body : List ℕ) (limit h b m count : ℕ) : Typ
   later : laterCapacity limit ≡ m
   fits : h ≤ m
   chunks : 1 + (b - (m - h) + (m - 1)) / m ≡ count
+  receivable : h ≤ 4096
   few : count ≤ 16383
+
+-- how many bytes of the body chunk k and those after it carry, n of them
+abbrev sizes : (h b m n k : ℕ) → List ℕ
+sizes h b m zero k = []
+sizes h b m (suc n) k = (min (k * m - h) b - min ((k - 1) * m - h) b) ∷ sizes h b m n (k + 1)
 
 module _ (id : ℕ) (header body : List ℕ) (limit h b m count : ℕ) (z : Sized id header body limit h b m count) where
   counted : length (bodyPieces limit (length header) body) ≡ count
@@ -43,71 +49,88 @@ module _ (id : ℕ) (header body : List ℕ) (limit h b m count : ℕ) (z : Size
   count-granted =
       let fits : length header ≤ laterCapacity limit = rw (z .header-is, z .later) (z .fits) in
       cut-asked id header body limit _
-      (record { low = z .low; header-bytes = z .header-bytes; body-bytes = z .body-bytes; fits = fits; few = rw counted (z .few) })
+      (record {
+        low = z .low;
+        header-bytes = z .header-bytes;
+        body-bytes = z .body-bytes;
+        receivable = rw (z .header-is) (z .receivable);
+        fits = fits;
+        few = rw counted (z .few);
+      })
       ∙ rw counted
 
-  -- the property of chunk k, read back, and what follows it
-  next-carried : (n k size : ℕ) (lengths : List ℕ) → 1 ≤ k → k ≤ count → min (k * m - h) b - min ((k - 1) * m - h) b ≡ size
-      → carriedFrom id header body limit n (k + 1) ≡ granted lengths → carriedFrom id header body limit (suc n) k ≡ granted (size ∷ lengths)
+  -- the property of each chunk from k on, read back
+  carried-from : (n k : ℕ) → 1 ≤ k → n + k ≡ count + 1 → carriedFrom id header body limit n k ≡ granted (sizes h b m n k)
   unfolding carriedFrom
-  next-carried n k size lengths one l e q =
-      let w = budget-is-room id header body limit count k 4096 count-granted one l (let t = budget-between limit in omega arith) in
-      let r = chunk-reads-back id header body limit k 4096 _ w in
+  carried-from zero k one e = refl
+  carried-from (suc n) k one e =
+      let w = budget-is-room id header body limit count k maxSysexMax count-granted one (omega arith) (let t = budget-between limit in omega arith) in
+      let r = chunk-reads-back id header body limit k maxSysexMax _ w in
       let c : readChunk (chunkBytes (chunkAt id header body limit k)) ≡ granted (chunkAt id header body limit k) =
       rw (r .0) (ap granted (r .1)) in
-      let p : length (chunkAt id header body limit k .property) ≡ size =
-      property-length id header body limit count k count-granted one ∙ rw (z .header-is, z .body-is, z .later) e in
-      rw (w, c, q, p)
+      let p : length (chunkAt id header body limit k .property) ≡ min (k * m - h) b - min ((k - 1) * m - h) b =
+      property-length id header body limit count k count-granted one ∙ rw (z .header-is, z .body-is, z .later) refl in
+      rw (w, c, carried-from n (k + 1) (omega arith) (omega arith), p)
 
-  all-carried : (lengths : List ℕ) → carriedFrom id header body limit count 1 ≡ granted lengths → carried id header body limit ≡ granted lengths
+  all-carried : carried id header body limit ≡ granted (sizes h b m count 1)
   unfolding carried
-  all-carried lengths q = rw count-granted q
-
-none-carried : (id : ℕ) (header body : List ℕ) (limit k : ℕ) → carriedFrom id header body limit 0 k ≡ granted []
-unfolding carriedFrom
-none-carried id header body limit k = refl
+  all-carried = rw count-granted (carried-from count 1 (omega arith) refl)
 
 -- the cuts of the table
-five-chunks : (id : ℕ) (header body : List ℕ) → id ≤ 127 → isSevenBit header ≡ true → isSevenBit body ≡ true → length header ≡ 48 → length body ≡ 1000
-    → carried id header body 256 ≡ granted (184 ∷ 232 ∷ 232 ∷ 232 ∷ 120 ∷ [])
-unfolding laterCapacity budget clamped
-five-chunks id header body i s t eh eb =
-    let z : Sized id header body 256 48 1000 232 5 =
-    record { low = i; header-bytes = s; body-bytes = t; header-is = eh; body-is = eb; later = refl; fits = omega arith; chunks = refl; few = omega arith } in
-    let next = next-carried id header body 256 48 1000 232 5 z in
-    all-carried id header body 256 48 1000 232 5 z _
-    (next 4 1 184 _ (omega arith) (omega arith) refl
-    (next 3 2 232 _ (omega arith) (omega arith) refl
-    (next 2 3 232 _ (omega arith) (omega arith) refl
-    (next 1 4 232 _ (omega arith) (omega arith) refl
-    (next 0 5 120 _ (omega arith) (omega arith) refl (none-carried id header body 256 6))))))
+module _ (id : ℕ) (header body : List ℕ) (i : id ≤ 127) (s : isSevenBit header ≡ true) (t : isSevenBit body ≡ true) where
+  cut-carried : (limit h b m count : ℕ) → length header ≡ h → length body ≡ b → laterCapacity limit ≡ m → h ≤ 4096 → h ≤ m
+      → 1 + (b - (m - h) + (m - 1)) / m ≡ count → count ≤ 16383 → carried id header body limit ≡ granted (sizes h b m count 1)
+  cut-carried limit h b m count eh eb el r f c n =
+      all-carried id header body limit h b m count
+      (record {
+        low = i;
+        header-bytes = s;
+        body-bytes = t;
+        header-is = eh;
+        body-is = eb;
+        later = el;
+        receivable = r;
+        fits = f;
+        chunks = c;
+        few = n;
+      })
 
-none-in-the-first : (id : ℕ) (header body : List ℕ) → id ≤ 127 → isSevenBit header ≡ true → isSevenBit body ≡ true → length header ≡ 104 → length body ≡ 200
-    → carried id header body 128 ≡ granted (0 ∷ 104 ∷ 96 ∷ [])
-unfolding laterCapacity budget clamped
-none-in-the-first id header body i s t eh eb =
-    let z : Sized id header body 128 104 200 104 3 =
-    record { low = i; header-bytes = s; body-bytes = t; header-is = eh; body-is = eb; later = refl; fits = omega arith; chunks = refl; few = omega arith } in
-    let next = next-carried id header body 128 104 200 104 3 z in
-    all-carried id header body 128 104 200 104 3 z _
-    (next 2 1 0 _ (omega arith) (omega arith) refl
-    (next 1 2 104 _ (omega arith) (omega arith) refl
-    (next 0 3 96 _ (omega arith) (omega arith) refl (none-carried id header body 128 4))))
+  five-chunks : length header ≡ 48 → length body ≡ 1000 → carried id header body 256 ≡ granted (184 ∷ 232 ∷ 232 ∷ 232 ∷ 120 ∷ [])
+  unfolding laterCapacity budget clamped
+  five-chunks eh eb = cut-carried 256 48 1000 232 5 eh eb refl (omega arith) (omega arith) refl (omega arith)
 
-too-wide : (id : ℕ) (header body : List ℕ) → id ≤ 127 → isSevenBit header ≡ true → isSevenBit body ≡ true → length header ≡ 105 → length body ≡ 200
-    → carried id header body 128 ≡ refused 4 0
-unfolding carried cutCount laterCapacity budget clamped
-too-wide id header body i s t eh eb =
-    let count = length (bodyPieces 128 (length header) body) in
-    rw (cut-wide id header body 128 (granted count) i s t (omega arith) (omega arith))
+  five-larger : length header ≡ 48 → length body ≡ 65536 → carried id header body 16384 ≡ granted (16312 ∷ 16360 ∷ 16360 ∷ 16360 ∷ 144 ∷ [])
+  unfolding laterCapacity budget clamped
+  five-larger eh eb = cut-carried 16384 48 65536 16360 5 eh eb refl (omega arith) (omega arith) refl (omega arith)
+
+  longest-header : length header ≡ 4096 → length body ≡ 1000 → carried id header body 16384 ≡ granted (1000 ∷ [])
+  unfolding laterCapacity budget clamped
+  longest-header eh eb = cut-carried 16384 4096 1000 16360 1 eh eb refl (omega arith) (omega arith) refl (omega arith)
+
+  none-in-the-first : length header ≡ 104 → length body ≡ 200 → carried id header body 128 ≡ granted (0 ∷ 104 ∷ 96 ∷ [])
+  unfolding laterCapacity budget clamped
+  none-in-the-first eh eb = cut-carried 128 104 200 104 3 eh eb refl (omega arith) (omega arith) refl (omega arith)
+
+  too-wide : length header ≡ 105 → length body ≡ 200 → carried id header body 128 ≡ refused 4 0
+  unfolding carried cutCount laterCapacity budget clamped
+  too-wide eh eb =
+      let count = length (bodyPieces 128 (length header) body) in
+      rw (cut-wide id header body 128 (granted count) i s t (omega arith) (omega arith))
+
+  too-long : length header ≡ 4097 → length body ≡ 1000 → carried id header body 16384 ≡ refused 4 0
+  unfolding carried cutCount
+  too-long eh eb =
+      let count = length (bodyPieces 16384 (length header) body) in
+      rw (cut-long id header body 16384 (granted count) i s t (omega arith))
 
 -- All marked examples hold.
 pub examples-hold : AllHold examples
 unfolding Holds AllHold examples withinCount readEnd readFields clamped budget laterCapacity firstCapacity askFirst readU14 writeU14 readMuid
     readMcoded7 askGroups askGroup groups decoded groupData restored pieces joined isSevenBit numberOf bytesOf stepped
 examples-hold =
-    let from-16 : AllHold (drop 16 examples) = (refl, (refl, (refl, tt))) in
-    let from-11 : AllHold (drop 11 examples) = (refl, (refl, (none-in-the-first, (too-wide, (five-chunks, from-16))))) in
-    let from-7 : AllHold (drop 7 examples) = (refl, (refl, (refl, (refl, from-11)))) in
+    let from-21 : AllHold (drop 21 examples) = (refl, (refl, (refl, tt))) in
+    let from-18 : AllHold (drop 18 examples) = (five-larger, (longest-header, (too-long, from-21))) in
+    let from-13 : AllHold (drop 13 examples) = (refl, (refl, (none-in-the-first, (too-wide, (five-chunks, from-18))))) in
+    let from-7 : AllHold (drop 7 examples) = (refl, (refl, (refl, (refl, (refl, (refl, from-13)))))) in
     let from-3 : AllHold (drop 3 examples) = (refl, (refl, (refl, (refl, from-7)))) in
     (refl, (refl, (refl, from-3)))

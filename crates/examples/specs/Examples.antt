@@ -10,7 +10,7 @@ use Rattle.seven_bit.specs.SevenBit.{isSevenBit}
 use Rattle.midici_core.specs.Muid.{readMuid}
 use Rattle.pe_wire.specs.Wire.{readU14, writeU14}
 use Rattle.pe_frame.specs.Chunk.{Chunk, chunkFrom, readChunk}
-use Rattle.pe_chunker.specs.Cut.{laterCapacity, askFirst, cutCount, cutChunk}
+use Rattle.pe_chunker.specs.Cut.{maxSysexMax, laterCapacity, askFirst, cutCount, cutChunk}
 use Rattle.pe_mcoded7.specs.Mcoded7.{readMcoded7}
 use Rattle.pe_controller.specs.Controller.{stepped}
 
@@ -26,11 +26,11 @@ pub data Example : Type 0 where
   mcoded7-reads : List ℕ → Reply (List ℕ) → Example
   counter-steps : ℕ → ℕ → Example
 
--- How many property bytes are read from chunk k of a cut and from those after it, n of them, each as it is written into 4,096 bytes.
+-- How many property bytes are read from chunk k of a cut and from those after it, n of them, each as it is written into 16,384 bytes.
 unfoldable pub carriedFrom : ℕ → List ℕ → List ℕ → ℕ → ℕ → ℕ → Reply (List ℕ)
 carriedFrom id header body limit zero k = granted []
 carriedFrom id header body limit (suc n) k =
-    andThen (cutChunk id header body limit k 4096) (λ bytes.
+    andThen (cutChunk id header body limit k maxSysexMax) (λ bytes.
     andThen (readChunk bytes) (λ c.
     andThen (carriedFrom id header body limit n (k + 1)) (λ lengths.
     granted (length (c .property) ∷ lengths))))
@@ -73,11 +73,14 @@ examples =
     ∷ chunk-reads (0x05 ∷ 0x02 ∷ 0x00 ∷ 0x7B ∷ 0x7D ∷ 0x01 ∷ 0x00 ∷ 0x01 ∷ 0x00 ∷ 0x00 ∷ []) (refused 2 0)
     -- "05 01 00 7B 02 00 02 00 00 00: 8."
     ∷ chunk-reads (0x05 ∷ 0x01 ∷ 0x00 ∷ 0x7B ∷ 0x02 ∷ 0x00 ∷ 0x02 ∷ 0x00 ∷ 0x00 ∷ 0x00 ∷ []) (refused 8 0)
-    -- "Limits 0 and 128 carry 104 later; 4,096 and 5,000 carry 4,072."
+    -- "Limits 0 and 128 carry 104 later; 4,096 and 5,000 carry 4,072.", where document 02, K6, says: "01's limit 5,000 gives 4,976".
     ∷ later-carries 0 104
     ∷ later-carries 128 104
     ∷ later-carries 4096 4072
-    ∷ later-carries 5000 4072
+    ∷ later-carries 5000 4976
+    -- K6: "The upper clamp rises to 16,384, so later frames carry up to 16,360"
+    ∷ later-carries 16384 16360
+    ∷ later-carries 16385 16360
     -- "Limit 128: header 104 leaves 0 for frame 1, header 105 is 4.": by the capacity, and by the cut of a body of 200 bytes
     ∷ first-carries 128 104 (granted 0)
     ∷ first-carries 128 105 (refused 4 0)
@@ -85,6 +88,10 @@ examples =
     ∷ cut-carries 128 105 200 (refused 4 0)
     -- "Header 48, body 1,000, limit 256: 184, 232, 232, 232, 120."
     ∷ cut-carries 256 48 1000 (granted (184 ∷ 232 ∷ 232 ∷ 232 ∷ 120 ∷ []))
+    -- the longest body at K6's limit; and "a header over 4,096 bytes is now turned down by the cutter with 4"
+    ∷ cut-carries 16384 48 65536 (granted (16312 ∷ 16360 ∷ 16360 ∷ 16360 ∷ 144 ∷ []))
+    ∷ cut-carries 16384 4096 1000 (granted (1000 ∷ []))
+    ∷ cut-carries 16384 4097 1000 (refused 4 0)
     -- "Console 7F 7F 7F 7F is 0FFFFFFF."
     ∷ muid-reads (0x7F ∷ 0x7F ∷ 0x7F ∷ 0x7F ∷ []) (granted 0x0FFFFFFF)
     -- "Mcoded7 40 01 is 81."

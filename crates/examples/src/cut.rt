@@ -56,11 +56,24 @@ fn front(out: &[u8], n: usize) {
 
 fn chunk(what: &[u8], header: &[u8], body: &[u8], limit: u32, k: u16) {
     text(what);
-    let mut out = [0u8; 4096];
+    let mut out = [0u8; 16384];
     match pe_chunker::split_chunk(5, header, body, limit, k, &mut out) {
         Encoded::Wrote(n) => front(&out, n),
         Encoded::Refused(e) => refused(e.number()),
     }
+}
+
+// "a header over 4,096 bytes is now turned down by the cutter with 4" (document 02, K6).
+fn larger(body: &[u8]) {
+    let header = [0x20u8; 4097];
+    count(
+        b"header 4096, body 1000, limit 16384, chunks:",
+        &header[0..4096],
+        body,
+        16384,
+    );
+    chunk(b"chunk 1:", &header[0..4096], body, 16384, 1);
+    count(b"header 4097:", &header, body, 16384);
 }
 
 // "Header 48, body 1,000, limit 256: 184, 232, 232, 232, 120. Empty body: one frame, 1 of 1."
@@ -81,4 +94,5 @@ pub(crate) fn examples() {
     chunk(b"chunk 6:", &header, &body, 256, 6);
     count(b"empty body, chunks:", &header, b"", 256);
     chunk(b"chunk 1:", &header, b"", 256, 1);
+    larger(&body);
 }

@@ -35,6 +35,8 @@ fn main() {
     later_carries(b"limit 128:", 128);
     later_carries(b"limit 4096:", 4096);
     later_carries(b"limit 5000:", 5000);
+    later_carries(b"limit 16384:", 16384);
+    later_carries(b"limit 16385:", 16385);
     first_carries(b"limit 128, header 104, the first chunk carries:", 128, 104);
     first_carries(b"limit 128, header 105:", 128, 105);
     cut::examples();

@@ -13,7 +13,7 @@ use Rattle.seven_bit.specs.SevenBit.{isSevenBit}
 use Rattle.seven_bit.proofs.ReplyLaws.{asked, first-granted as granted-first, then-else}
 use Rattle.pe_chunker.specs.Cut.{laterCapacity, bodyPieces, askFirst, askCut}
 pub use Rattle.pe_chunker.specs.Cut.{Cut}
-use Rattle.pe_chunker.proofs.CutLaws.{later-between, first-granted, first-refused, first-told}
+use Rattle.pe_chunker.proofs.CutLaws.{first-granted, first-refused, first-told}
 
 -- the refusals, each past the questions before it
 pub cut-id : {A : Type 0} (id : ℕ) (header body : List ℕ) (limit : ℕ) (next : Reply A) → 127 < id → askCut id header body limit next ≡ refused 1 0
@@ -31,31 +31,34 @@ unfolding askCut
 cut-high-body id header body limit next i s b = rw (le-leb _ _ i, s, b)
 
 pub cut-long : {A : Type 0} (id : ℕ) (header body : List ℕ) (limit : ℕ) (next : Reply A) → id ≤ 127 → isSevenBit header ≡ true → isSevenBit body ≡ true
-    → 16383 < length header → askCut id header body limit next ≡ refused 4 0
+    → 4096 < length header → askCut id header body limit next ≡ refused 4 0
 unfolding askCut
 cut-long id header body limit next i s b h = rw (le-leb _ _ i, s, b, lt-leb _ _ h)
 
 pub cut-wide : {A : Type 0} (id : ℕ) (header body : List ℕ) (limit : ℕ) (next : Reply A) → id ≤ 127 → isSevenBit header ≡ true → isSevenBit body ≡ true
-    → length header ≤ 16383 → laterCapacity limit < length header → askCut id header body limit next ≡ refused 4 0
+    → length header ≤ 4096 → laterCapacity limit < length header → askCut id header body limit next ≡ refused 4 0
 unfolding askCut
 cut-wide id header body limit next i s b h w = rw (le-leb _ _ i, s, b, le-leb _ _ h, first-refused limit (length header) w)
 
 -- the last question's two answers
 pub cut-many : {A : Type 0} (id : ℕ) (header body : List ℕ) (limit : ℕ) (next : Reply A) → id ≤ 127 → isSevenBit header ≡ true → isSevenBit body ≡ true
-    → length header ≤ laterCapacity limit → 16383 < length (bodyPieces limit (length header) body) → askCut id header body limit next ≡ refused 5 0
+    → length header ≤ 4096 → length header ≤ laterCapacity limit → 16383 < length (bodyPieces limit (length header) body)
+    → askCut id header body limit next ≡ refused 5 0
 unfolding askCut
-cut-many id header body limit next i s b h m =
-    let l = later-between limit in
-    let t : length header ≤ 16383 = omega arith in
-    rw (le-leb _ _ i, s, b, le-leb _ _ t, first-granted limit (length header) h, lt-leb _ _ m)
+cut-many id header body limit next i s b h w m =
+    rw (le-leb _ _ i, s, b, le-leb _ _ h, first-granted limit (length header) w, lt-leb _ _ m)
 
 pub cut-asked : {A : Type 0} (id : ℕ) (header body : List ℕ) (limit : ℕ) (next : Reply A) → Cut id header body limit → askCut id header body limit next ≡ next
 unfolding askCut
 cut-asked id header body limit next c =
-    let b = later-between limit in
-    let h = c .fits in
-    let t : length header ≤ 16383 = omega arith in
-    rw (le-leb _ _ (c .low), c .header-bytes, c .body-bytes, le-leb _ _ t, first-granted limit (length header) h, le-leb _ _ (c .few))
+    rw (
+      le-leb _ _ (c .low),
+      c .header-bytes,
+      c .body-bytes,
+      le-leb _ _ (c .receivable),
+      first-granted limit (length header) (c .fits),
+      le-leb _ _ (c .few),
+    )
 
 -- what a grant tells
 pub cut-told : {A : Type 0} (id : ℕ) (header body : List ℕ) (limit : ℕ) (next : Reply A) (a : A) → askCut id header body limit next ≡ granted a
@@ -65,13 +68,14 @@ cut-told id header body limit next a q =
     let p1 = asked (leb id 127) 1 _ a q in
     let p2 = asked (isSevenBit header) 1 _ a (p1 .1) in
     let p3 = asked (isSevenBit body) 1 _ a (p2 .1) in
-    let p4 = asked (leb (length header) 16383) 4 _ a (p3 .1) in
+    let p4 = asked (leb (length header) 4096) 4 _ a (p3 .1) in
     let p5 = granted-first (askFirst limit (length header)) _ a (p4 .1) in
     let p6 = asked (leb (length (bodyPieces limit (length header) body)) 16383) 5 next a (p5 .2) in (
       record {
         low = leb-true _ _ (p1 .0);
         header-bytes = p2 .0;
         body-bytes = p3 .0;
+        receivable = leb-true _ _ (p4 .0);
         fits = first-told limit (length header) (p5 .0) (p5 .1);
         few = leb-true _ _ (p6 .0);
       },
@@ -92,7 +96,7 @@ then-cut id header body limit r r′ f e =
     then-else (leb id 127) 1 _ _ f
     (then-else (isSevenBit header) 1 _ _ f
     (then-else (isSevenBit body) 1 _ _ f
-    (then-else (leb (length header) 16383) 4 _ _ f
+    (then-else (leb (length header) 4096) 4 _ _ f
     (then-first (askFirst limit (length header)) _ _ f
     (λ _. then-else (leb (length (bodyPieces limit (length header) body)) 16383) 5 r r′ f e)))))
 

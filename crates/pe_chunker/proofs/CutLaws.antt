@@ -13,45 +13,45 @@ use lib.Seq.{take-nil, drop-nil, drop-drop}
 use Rattle.seven_bit.specs.Parts.{part, joined}
 use Rattle.seven_bit.specs.Reply.{granted, refused}
 use Rattle.seven_bit.proofs.ReplyLaws.{both, asked}
-use Rattle.pe_chunker.specs.Cut.{clamped, budget, laterCapacity, firstCapacity, askFirst, cutUp}
+use Rattle.pe_chunker.specs.Cut.{maxSysexMax, clamped, budget, laterCapacity, firstCapacity, askFirst, cutUp}
 
 -- the clamped limit, by the code's tests
 pub clamped-low : (limit : ℕ) → limit < 128 → clamped limit ≡ 128
 unfolding clamped
 clamped-low limit h = rw (lt-ltb _ _ h)
 
-pub clamped-high : (limit : ℕ) → 128 ≤ limit → 4096 < limit → clamped limit ≡ 4096
+pub clamped-high : (limit : ℕ) → 128 ≤ limit → maxSysexMax < limit → clamped limit ≡ maxSysexMax
 unfolding clamped
 clamped-high limit h g = rw (le-ltb _ _ h, lt-ltb _ _ g)
 
-pub clamped-same : (limit : ℕ) → 128 ≤ limit → limit ≤ 4096 → clamped limit ≡ limit
+pub clamped-same : (limit : ℕ) → 128 ≤ limit → limit ≤ maxSysexMax → clamped limit ≡ limit
 unfolding clamped
 clamped-same limit h g = rw (le-ltb _ _ h, le-ltb _ _ g)
 
-pub clamped-between : (limit : ℕ) → (128 ≤ clamped limit) × (clamped limit ≤ 4096)
+pub clamped-between : (limit : ℕ) → (128 ≤ clamped limit) × (clamped limit ≤ maxSysexMax)
 clamped-between limit =
     ⊎-elim
     (λ t. let e = clamped-low limit (ltb-true limit 128 t) in (omega arith, omega arith))
     (λ f.
     let h : 128 ≤ limit = ltb-false limit 128 f in
     ⊎-elim
-    (λ t. let e = clamped-high limit h (ltb-true 4096 limit t) in (omega arith, omega arith))
-    (λ g. let l : limit ≤ 4096 = ltb-false 4096 limit g in let e = clamped-same limit h l in (omega arith, omega arith))
-    (both (ltb 4096 limit)))
+    (λ t. let e = clamped-high limit h (ltb-true maxSysexMax limit t) in (omega arith, omega arith))
+    (λ g. let l : limit ≤ maxSysexMax = ltb-false maxSysexMax limit g in let e = clamped-same limit h l in (omega arith, omega arith))
+    (both (ltb maxSysexMax limit)))
     (both (ltb limit 128))
 
 pub budget-is : (limit : ℕ) → budget limit + 15 ≡ clamped limit
 unfolding budget
 budget-is limit = let h = clamped-between limit in omega arith
 
-pub budget-between : (limit : ℕ) → (113 ≤ budget limit) × (budget limit ≤ 4081)
+pub budget-between : (limit : ℕ) → (113 ≤ budget limit) × (budget limit + 15 ≤ maxSysexMax)
 budget-between limit = let h = clamped-between limit in let e = budget-is limit in (omega arith, omega arith)
 
 pub later-is : (limit : ℕ) → laterCapacity limit + 9 ≡ budget limit
 unfolding laterCapacity
 later-is limit = let h = budget-between limit in omega arith
 
-pub later-between : (limit : ℕ) → (104 ≤ laterCapacity limit) × (laterCapacity limit ≤ 4072)
+pub later-between : (limit : ℕ) → (104 ≤ laterCapacity limit) × (laterCapacity limit + 24 ≤ maxSysexMax)
 later-between limit = let h = budget-between limit in let e = later-is limit in (omega arith, omega arith)
 
 pub first-is : (limit header-len : ℕ) → firstCapacity limit header-len ≡ laterCapacity limit - header-len

@@ -42,13 +42,20 @@ unfolding bodyPieces cutUp
 empty-pieces limit header-len = rw (take-nil {A = ℕ} (firstCapacity limit header-len))
 
 -- so it is cut into one chunk where the header fits,
-pub empty-body-is-one-chunk : (id : ℕ) (header : List ℕ) (limit : ℕ) → id ≤ 127 → isSevenBit header ≡ true → length header + 9 ≤ budget limit
-    → cutCount id header [] limit ≡ granted 1
+pub empty-body-is-one-chunk : (id : ℕ) (header : List ℕ) (limit : ℕ) → id ≤ 127 → isSevenBit header ≡ true → length header ≤ 4096
+    → length header + 9 ≤ budget limit → cutCount id header [] limit ≡ granted 1
 unfolding cutCount
-empty-body-is-one-chunk id header limit i s h =
+empty-body-is-one-chunk id header limit i s r h =
     let e : length (bodyPieces limit (length header) []) ≡ 1 = ap length (empty-pieces limit (length header)) in
     cut-asked id header [] limit _
-    (record { low = i; header-bytes = s; body-bytes = unfold isSevenBit in refl; fits = omega (arith, later-is limit); few = omega arith })
+    (record {
+      low = i;
+      header-bytes = s;
+      body-bytes = unfold isSevenBit in refl;
+      receivable = r;
+      fits = omega (arith, later-is limit);
+      few = omega arith;
+    })
     ∙ rw e
 
 -- which is number 1 of 1, with the header and an empty property.
@@ -84,6 +91,10 @@ fields-in-range id header body limit count k q one l =
     let t = count-told id header body limit count q in
     let e = t .1 in
     chunk-in-range id header body limit k (t .0) one (omega arith)
+
+-- A full-size table has room for the header of every cut.
+pub header-receivable : (id : ℕ) (header body : List ℕ) (limit count : ℕ) → cutCount id header body limit ≡ granted count → length header ≤ 4096
+header-receivable id header body limit count q = count-told id header body limit count q .0 .receivable
 
 -- How many bytes of the body chunk k carries: what k chunks hold beside the header, without what those before it hold.
 pub property-length : (id : ℕ) (header body : List ℕ) (limit count k : ℕ) → cutCount id header body limit ≡ granted count → 1 ≤ k

@@ -15,9 +15,13 @@ use Rattle.pe_frame.specs.Write.{chunkBytes, chunkLen}
 use Rattle.pe_chunker.specs.declared.Capacity.{Capacity}
 use Rattle.pe_chunker.specs.declared.ChunkCount.{ChunkCount}
 
--- "Limit clamped to 128..4,096"
+-- Document 02, K6: "The upper clamp rises to 16,384".
+abbrev pub maxSysexMax : ℕ
+maxSysexMax = 16384
+
+-- "Limit clamped to 128..4,096", with K6's upper clamp.
 unfoldable pub clamped : ℕ → ℕ
-clamped limit = cond (ltb limit 128) 128 (cond (ltb 4096 limit) 4096 limit)
+clamped limit = cond (ltb limit 128) 128 (cond (ltb maxSysexMax limit) maxSysexMax limit)
 
 -- "budget is limit − 15"
 unfoldable pub budget : ℕ → ℕ
@@ -61,12 +65,13 @@ chunkAt request-id header body limit k =
 
 -- "Request id? 1. Header bytes? 1. Header up to 16,383? 4. Header + 9 within budget? 4. At most 16,383 frames? 5.": the fourth of these is
 -- `askFirst`'s. Document 02, K3: property bytes above 7F give 1 "after the header bytes in writing and cutting", asked of all of the body.
+-- K6: "a header over 4,096 bytes is now turned down by the cutter with 4, in place of the 16,383 limit", so that a full-size table has room for it.
 unfoldable pub askCut : {A : Type 0} → ℕ → List ℕ → List ℕ → ℕ → Reply A → Reply A
 askCut request-id header body limit next =
     leb request-id 0x7F else 1 then
     isSevenBit header else 1 then
     isSevenBit body else 1 then
-    leb (length header) 16383 else 4 then
+    leb (length header) 4096 else 4 then
     andThen (askFirst limit (length header)) (λ _.
     leb (length (bodyPieces limit (length header) body)) 16383 else 5 then
     next)
@@ -76,6 +81,7 @@ pub record Cut (request-id : ℕ) (header body : List ℕ) (limit : ℕ) : Type 
   pub low : request-id ≤ 127
   pub header-bytes : isSevenBit header ≡ true
   pub body-bytes : isSevenBit body ≡ true
+  pub receivable : length header ≤ 4096
   pub fits : length header ≤ laterCapacity limit
   pub few : length (bodyPieces limit (length header) body) ≤ 16383
 

@@ -4,6 +4,7 @@ pub mod split;
 
 use crate::piece::put_piece;
 use midici_core::spec::CI_HEADER_LEN;
+use pe_frame::frame::MAX_HEADER_BYTES;
 use pe_frame::frame::PE_FRAMING_LEN;
 use pe_frame::frame::REQUEST_ID_MAX;
 use pe_wire::error::PeError;
@@ -20,7 +21,7 @@ ghost use Rattle.pe_chunker.specs.Cut.{capacityTold, chunkCountTold};
 
 pub const MAX_SYSEX_MIN: u32 = 128;
 
-pub const MAX_SYSEX_MAX: u32 = 4096;
+pub const MAX_SYSEX_MAX: u32 = 16384;
 
 // How many property bytes fit, or why none does.
 pub enum Capacity {
@@ -73,7 +74,7 @@ pub fn later_chunk_property_capacity(max_sysex: u32) -> usize
 
 // The first chunk, and those for what it leaves of the body.
 fn chunks_for(body_len: usize, first: usize, later: usize) -> usize
-    requires { ⌜ (0 < later) × (later ≤ 4072) × («body_len» < 9223372036854775808) ⌝ }
+    requires { ⌜ (0 < later) × (later ≤ 16383) × («body_len» < 9223372036854775808) ⌝ }
     ensures { λ r. ⌜ r ≡ 1 + («body_len» - first + (later - 1)) / later ⌝ }
 {
     if body_len <= first {
@@ -95,7 +96,7 @@ pub fn chunk_count(request_id: u8, header: &[u8], body: &[u8], max_sysex: u32) -
     if !all_seven_bit(body) {
         return ChunkCount::Refused(PeError::BadField);
     }
-    if header.len() > U14_MAX as usize {
+    if header.len() > MAX_HEADER_BYTES {
         return ChunkCount::Refused(PeError::HeaderTooLarge);
     }
     let later = later_chunk_property_capacity(max_sysex);

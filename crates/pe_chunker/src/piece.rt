@@ -23,7 +23,7 @@ fn header_part(chunk_num: u16, header_len: usize) -> usize
 
 // How many of the body's bytes the first chunks carry.
 fn body_part(chunks: u16, header_len: usize, body_len: usize, later: usize) -> usize
-    requires { ⌜ later ≤ 4072 ⌝ }
+    requires { ⌜ later ≤ 16383 ⌝ }
     ensures { λ r. ⌜ r ≡ min (chunks * later - «header_len») «body_len» ⌝ }
 {
     let room = chunks as usize * later;

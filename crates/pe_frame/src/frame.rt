@@ -26,6 +26,9 @@ pub const HEADER_AT: usize = 3;
 
 pub const REQUEST_ID_MAX: u8 = 0x7F;
 
+// The longest header that is cut, and that a table has room for.
+pub const MAX_HEADER_BYTES: usize = 4096;
+
 // What reading a chunk finds: its header starts at HEADER_AT, its property at property_at.
 pub struct ChunkFields {
     pub request_id: u8,

@@ -1,7 +1,7 @@
 // The questions that every call asks, and where a peer's record and a slot are.
 use crate::shape::Shape;
+use pe_frame::frame::MAX_HEADER_BYTES;
 use pe_slot::layout::MAX_FRAGMENT_RECORDS;
-use pe_slot::layout::MAX_HEADER_BYTES;
 use pe_slot::layout::MAX_TX_BYTES;
 use pe_slot::layout::REQUEST_ID;
 use pe_slot::layout::SLOT_WORDS;

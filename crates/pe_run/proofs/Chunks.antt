@@ -17,11 +17,11 @@ use Rattle.seven_bit.proofs.ReplyLaws.{both}
 use Rattle.pe_frame.specs.Chunk.{Chunk, chunkFrom, Fields, readFields, chunkOf}
 use Rattle.pe_frame.proofs.RoundTrip.{fields}
 use Rattle.pe_slot.specs.Slot.{Piece, bodyLen, inOrder, bodyOf}
-use Rattle.pe_chunker.specs.Cut.{laterCapacity, bodyPieces, chunkAt}
+use Rattle.pe_chunker.specs.Cut.{maxSysexMax, laterCapacity, bodyPieces, chunkAt}
 use Rattle.pe_chunker.proofs.CutLaws.{later-between}
 use Rattle.pe_chunker.proofs.PieceLaws.{pieces-count}
 use Rattle.pe_chunker.proofs.ChunkLaws.{count-told}
-use Rattle.pe_chunker.proofs.Theorems.{pieces-are-the-body, chunk-reads-back}
+use Rattle.pe_chunker.proofs.Theorems.{pieces-are-the-body, header-receivable, chunk-reads-back}
 use Rattle.pe_reassembler.specs.Open.{Perm}
 use Rattle.pe_run.specs.Lists.{memb}
 use Rattle.pe_run.specs.Demand.{CutInto}
@@ -209,7 +209,7 @@ cut-chunks id header body limit chunks c =
         ≡ getD (chunksFrom id header (length (bodyPieces limit (length header) body)) 1 (bodyPieces limit (length header) body)) i (chunkIn [])
     same i l n =
         let ss = bodyPieces limit (length header) body in
-        let r = chunk-reads-back id header body limit (suc i) 4096 (getD chunks i []) (c .each i l) in
+        let r = chunk-reads-back id header body limit (suc i) maxSysexMax (getD chunks i []) (c .each i l) in
         let shape : chunkAt id header body limit (suc i) ≡ numbered id header (length ss) (suc i) (getD ss (suc i - 1) []) = unfold chunkAt in refl in
         let back : suc i - 1 ≡ i = omega arith in
         let on : suc i ≡ 1 + i = omega arith in
@@ -226,9 +226,7 @@ pub cut-good : (id : ℕ) (header body : List ℕ) (limit : ℕ) (chunks : List 
 cut-good id header body limit chunks c b =
     let ss = bodyPieces limit (length header) body in
     let whole : joined ss ≡ body = pieces-are-the-body limit (length header) body in
-    let t = count-told id header body limit (length chunks) (c .count) in
-    let f = t .0 .fits in
-    let w = later-between limit in
+    let r = header-receivable id header body limit (length chunks) (c .count) in
     rw (cut-chunks id header body limit chunks c)
     (subst (λ (l : List ℕ). Good header l (length ss) (chunksFrom id header (length ss) 1 ss)) whole
-    (chunks-good id header ss (omega arith) (rw whole b) (omega (arith, pieces-count limit (length header) body)) (pieces-few limit (length header) body b)))
+    (chunks-good id header ss r (rw whole b) (omega (arith, pieces-count limit (length header) body)) (pieces-few limit (length header) body b)))

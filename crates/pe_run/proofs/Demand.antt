@@ -7,6 +7,7 @@ use native.Mathlib.Omega.{arith}
 use lib.Dec.{eqb}
 use Rattle.seven_bit.specs.Reply.{granted}
 use Rattle.pe_chunker.specs.Split.{cutList}
+use Rattle.pe_chunker.specs.Cut.{maxSysexMax}
 use Rattle.pe_chunker.proofs.CutLaws.{budget-between}
 use Rattle.pe_chunker.proofs.Theorems.{split-count, split-each}
 use Rattle.pe_reassembler.specs.declared.shape.Shape.{Shape}
@@ -69,7 +70,7 @@ pub split-into : (request-id : ℕ) (header body : List ℕ) (limit room places 
 split-into request-id header body limit room places chunks q =
     record {
       count = split-count request-id header body limit room places chunks q;
-      each = λ k l. split-each request-id header body limit room places chunks q k 4096 l (omega (arith, budget-between limit));
+      each = λ k l. split-each request-id header body limit room places chunks q k maxSysexMax l (omega (arith, budget-between limit));
     }
 
 -- ---- full size

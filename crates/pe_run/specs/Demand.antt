@@ -9,7 +9,7 @@ use lib.Dec.{eqb}
 use lib.ListN.{length, getD, drop}
 use Rattle.seven_bit.specs.Reply.{granted}
 use Rattle.pe_slot.specs.Feed.{still, lengths}
-use Rattle.pe_chunker.specs.Cut.{cutCount, cutChunk}
+use Rattle.pe_chunker.specs.Cut.{maxSysexMax, cutCount, cutChunk}
 use Rattle.pe_reassembler.specs.declared.shape.Shape.{Shape}
 use Rattle.pe_reassembler.specs.Open.{Perm, Shown, openSlots}
 use Rattle.pe_reassembler.specs.Table.{numbersLen}
@@ -30,11 +30,11 @@ pub record LongEnough (n : ℕ) (t : Table) : Type 0 where
   pub arenas : 262144 * n ≤ length (t .arenas)
 
 -- "A list's frames are those that the cutter .. writes by module 6 and **Cut**'s questions from one id, header, body and limit, for each k
--- from 1 to the count, none refused." Any buffer of 4,096 bytes is long enough for them. Document 02, K3: "a list promised to arrive whole has a
+-- from 1 to the count, none refused." Any buffer of 16,384 bytes is long enough for them. Document 02, K3: "a list promised to arrive whole has a
 -- body of bytes up to 7F": the cutter's own questions ask that, so that no hypothesis below is needed for it.
 pub record CutInto (request-id : ℕ) (header body : List ℕ) (limit : ℕ) (chunks : List (List ℕ)) : Type 0 where
   pub count : cutCount request-id header body limit ≡ granted (length chunks)
-  pub each : (k : ℕ) → k < length chunks → cutChunk request-id header body limit (suc k) 4096 ≡ granted (getD chunks k [])
+  pub each : (k : ℕ) → k < length chunks → cutChunk request-id header body limit (suc k) maxSysexMax ≡ granted (getD chunks k [])
 
 -- Is it under this peer and request id? Does such a chunk arrive with the call?
 abbrev pub isUnder : ℕ → ℕ → Option Arrival → Bool

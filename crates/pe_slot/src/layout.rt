@@ -34,9 +34,7 @@ pub struct TxSlot {
     pub property_bytes: u64,
 }
 
-// Full size: the header room, the arena, and the records.
-pub const MAX_HEADER_BYTES: usize = 4096;
-
+// Full size: the arena and the records; the header room is MAX_HEADER_BYTES of pe_frame.
 pub const MAX_TX_BYTES: usize = 65_536;
 
 pub const MAX_FRAGMENT_RECORDS: usize = 2048;

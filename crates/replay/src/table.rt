@@ -12,9 +12,9 @@ use crate::print_value;
 use crate::u8_at;
 use crate::u32_at;
 use crate::u64_at;
+use pe_frame::frame::MAX_HEADER_BYTES;
 use pe_reassembler::shape::Shape;
 use pe_slot::layout::MAX_FRAGMENT_RECORDS;
-use pe_slot::layout::MAX_HEADER_BYTES;
 use pe_slot::layout::MAX_TX_BYTES;
 
 const SHAPE: Shape = Shape {

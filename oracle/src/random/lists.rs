@@ -1,8 +1,11 @@
-//! Random lists for a run, as the original cuts them or as chunks are written one by one, and chunks made wrong.
+//! Random lists for a run, as the original cuts them, or a reading where the limit is one of K6's, or as chunks are written one by
+//! one; and chunks made wrong.
+use crate::cut::{first, later};
 use crate::functions::{chunks, cutter};
+use crate::input::List;
 use crate::inputs::seven_bit;
+use crate::layout::HEADER_BYTES;
 use crate::rng::Rng;
-use midici_pe::chunker::{first_chunk_property_capacity, later_chunk_property_capacity, split};
 use midici_pe::frame::PeChunk;
 
 /// How large the lists of a run are.
@@ -31,7 +34,23 @@ pub fn list(rng: &mut Rng, sizes: Sizes, request_id: u8) -> Vec<Vec<u8>> {
 }
 
 pub fn cut(rng: &mut Rng, request_id: u8, header_len: usize, body_len: usize, max_sysex: u32) -> Vec<Vec<u8>> {
-    split(request_id, &seven_bit(rng, header_len), &body(rng, body_len), max_sysex).expect("a list that can be cut")
+    let (header, body) = (seven_bit(rng, header_len), low(rng, body_len));
+    let list = List { request_id, max_sysex, header: &header, body: &body };
+    let mut chunks = cutter::split(list).expect("a list that can be cut");
+    if body_len > 0 && rng.once_in(64) {
+        *body_byte(&mut chunks, header_len, rng.below(body_len)) |= 0x80;
+    }
+    chunks
+}
+
+/// A byte of the body, where it stands in the chunks: behind the header's and nine bytes more, or these alone.
+fn body_byte(chunks: &mut [Vec<u8>], header_len: usize, at: usize) -> &mut u8 {
+    let first = chunks[0].len() - (9 + header_len);
+    if at < first {
+        return &mut chunks[0][9 + header_len + at];
+    }
+    let later = chunks[1].len() - 9;
+    &mut chunks[1 + (at - first) / later][9 + (at - first) % later]
 }
 
 /// Bytes up to 7F, eight for each number drawn; once in 64 with one above, whose chunk is left out.
@@ -69,9 +88,9 @@ pub fn with_late_count(rng: &mut Rng, request_id: u8) -> Vec<Vec<u8>> {
 /// Any limit, and any header that it takes.
 fn any(rng: &mut Rng, request_id: u8) -> Vec<Vec<u8>> {
     let max_sysex = cutter::any_limit(rng);
-    let later = later_chunk_property_capacity(max_sysex);
-    let header_len = if rng.once_in(4) { later } else { rng.below(later + 1) };
-    let first = first_chunk_property_capacity(max_sysex, header_len).expect("a header that fits");
+    let (later, longest) = (later(max_sysex), later(max_sysex).min(HEADER_BYTES));
+    let header_len = if rng.once_in(4) { longest } else { rng.below(longest + 1) };
+    let first = first(max_sysex, header_len).expect("a header that fits");
     let pieces = rng.below(4);
     let body_len = if rng.once_in(2) { rng.around(first + pieces * later) } else { rng.below(3 * later) };
     cut(rng, request_id, header_len, body_len, max_sysex)
@@ -79,8 +98,8 @@ fn any(rng: &mut Rng, request_id: u8) -> Vec<Vec<u8>> {
 
 /// A body of 65,536 bytes, one less, or up to two more.
 fn full(rng: &mut Rng, request_id: u8) -> Vec<Vec<u8>> {
-    let (header_len, body_len) = (rng.below(100), 65_535 + rng.below(4));
-    cut(rng, request_id, header_len, body_len, 4_096)
+    let (header_len, body_len, max_sysex) = (rng.below(100), 65_535 + rng.below(4), rng.pick(&[4_096, 16_384]));
+    cut(rng, request_id, header_len, body_len, max_sysex)
 }
 
 /// The same in chunks of up to 16,383 bytes.
@@ -98,7 +117,7 @@ fn in_large_pieces(rng: &mut Rng, request_id: u8) -> Vec<Vec<u8>> {
     lengths.iter().enumerate().map(chunk).map(bytes).collect()
 }
 
-/// One chunk whose header is around 4,096 bytes, which no list that is cut has, or longer.
+/// One chunk whose header is around 4,096 bytes, or longer, which no list that is cut has.
 fn with_header_around_4096(rng: &mut Rng, request_id: u8) -> Vec<Vec<u8>> {
     let header_len = if rng.once_in(4) { 4_000 + rng.below(12_384) } else { rng.around(4_096) };
     let (header, property) = (seven_bit(rng, header_len), low(rng, 5));

@@ -54,14 +54,11 @@ returns-3 c =
     let t = c .before .before in
     sym (cut-high-body _ _ _ _ _ (t .before .before .if1 .left) (low t) (sym (c .before .all-seven-bit2 .ensures) ∙ not-true _ (c .if3 .taken)))
 
-cast-if4 : tie.Need-cast-if4
-cast-if4 c = search needs
-
 returns-4 : tie.Need-returns-4
 unfolding cutCount
 returns-4 c =
     let t = c .before .before .before in
-    sym (cut-long _ _ _ _ _ (t .before .before .if1 .left) (low t) (body-low (c .before)) (c .if4 .taken))
+    sym (cut-long _ _ _ _ _ (t .before .before .if1 .left) (low t) (body-low (c .before)) (omega arith))
 
 later-chunk-property-capacity-requires : tie.Need-later-chunk-property-capacity-requires
 later-chunk-property-capacity-requires c κs = search needs
@@ -71,7 +68,7 @@ unfolding cutCount
 returns-5 c =
     let b = c .before .before .before in
     let t = b .before .before in
-    sym (cut-wide _ _ _ _ _ (t .before .before .if1 .left) (low t) (body-low b) (c .before .before .if4 .left) (omega arith))
+    sym (cut-wide _ _ _ _ _ (t .before .before .if1 .left) (low t) (body-low b) (omega arith) (omega arith))
 
 sub-chunks-for : tie.Need-sub-chunks-for
 sub-chunks-for c = search needs
@@ -90,7 +87,7 @@ returns-6 c =
     let e = counted (c .before) in
     let b = c .before .before .before .before .before in
     let t = b .before .before in
-    sym (cut-many _ _ _ _ _ (t .before .before .if1 .left) (low t) (body-low b) (omega arith) (omega arith))
+    sym (cut-many _ _ _ _ _ (t .before .before .if1 .left) (low t) (body-low b) (omega arith) (omega arith) (omega arith))
 
 cast-t18 : tie.Need-cast-t18
 cast-t18 c = search needs
@@ -103,7 +100,14 @@ returns-7 c =
     let t = b .before .before in
     rw (← e)
     (sym (cut-asked _ _ _ _ _
-    (record { low = t .before .before .if1 .left; header-bytes = low t; body-bytes = body-low b; fits = omega arith; few = omega arith })))
+    (record {
+      low = t .before .before .if1 .left;
+      header-bytes = low t;
+      body-bytes = body-low b;
+      receivable = omega arith;
+      fits = omega arith;
+      few = omega arith;
+    })))
 
 pub chunk-count-spec : {M : Type 1} → statement M
 chunk-count-spec =
@@ -114,7 +118,6 @@ chunk-count-spec =
     returns-2
     all-seven-bit-requires-2
     returns-3
-    cast-if4
     returns-4
     later-chunk-property-capacity-requires
     returns-5

@@ -1,10 +1,10 @@
 //! Compares the port with the original: `compare SEED CASES RUNS PROGRAM`. All inputs of a function where they are few; else all
 //! that are short or at the boundaries, and then CASES random ones; then RUNS runs of calls on a table; then a tape for every
-//! tenth run through PROGRAM, which is `tape`. What the original lacks is compared with a reading of document 02; so is what
-//! K3 of that document turns down and the original does not, but in a run what it turns down by what a slot holds. It stops at
-//! the first difference. It fails too where an export is not compared, or never gave a refusal that it can give, where nothing was
-//! left out for one of K3's questions, or where a kind of line never came. `compare tapes SEED TAPES PROGRAM` compares tapes alone,
-//! `compare exports` prints the names of the exports that are compared.
+//! tenth run through PROGRAM, which is `tape`. What the original lacks is compared with a reading of document 02; so are lists cut
+//! at K6's limits, and what K3 turns down and the original does not, but in a run what it turns down by what a slot holds. It stops
+//! at the first difference. It fails too where an export is not compared, or never gave a refusal that it can give, where nothing
+//! was left out for one of K3's questions or for K6's limits, or where a kind of line never came. `compare tapes SEED TAPES PROGRAM`
+//! compares tapes alone, `compare exports` prints the names of the exports that are compared.
 mod port;
 mod runs;
 mod state;
@@ -79,7 +79,10 @@ fn compare_all(op: Op, export: Export, seed: u64, cases: u64, summary: &mut Summ
 fn compare_functions(seed: u64, cases: u64, summary: &mut Summary) -> Result<(), String> {
     println!("The port and the original, seed {seed}, {cases} random cases for each function but those with all inputs");
     println!("How often each export was called, and each answer came, refusals by their numbers. Left out are calls to which");
-    println!("the original gives another answer than document 02 (K3): they are compared with a reading of that document.");
+    println!(
+        "the original gives another answer than document 02 (K3), and limits above 4,096, which it takes as 4,096 (K6): they"
+    );
+    println!("are compared with a reading of that document.");
     for (op, export) in Op::ALL {
         compare_all(op, export, seed, cases, summary)?;
         let all = if op.row().all_compared { ", all inputs" } else { "" };
@@ -110,14 +113,15 @@ fn check_refusals(runs: u64, summary: &Summary) -> Result<(), String> {
     Ok(())
 }
 
-/// Was something left out for each of K3's questions, of each export that has it? Of fewer runs than reach it all it is only said.
+/// Was something left out for each of K3's questions and for K6's limits, of each export that has it? Of fewer runs than reach it
+/// all it is only said.
 fn check_left_out(runs: u64, summary: &Summary) -> Result<(), String> {
     let of_functions = summary.never_left_out(Op::ALL.iter().map(|(_, export)| *export));
     let of_runs = summary.never_left_out(What::exports());
     match of_functions.or(of_runs.clone().filter(|_| runs >= RUNS_FOR_ALL)) {
         Some(missing) => return Err(format!("NOTHING LEFT OUT: {missing}")),
         None if of_runs.is_some() => println!("Too few runs to leave out everything. RUNS={RUNS_FOR_ALL} does."),
-        None => println!("For each of K3's questions, calls were left out of each export that has it."),
+        None => println!("For each of K3's questions and for K6's limits, calls were left out of each export that has it."),
     }
     Ok(())
 }

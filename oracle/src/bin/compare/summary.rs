@@ -107,7 +107,7 @@ impl Summary {
         exports.iter().find_map(one).or_else(of_hub)
     }
 
-    /// Which of K3's questions turned nothing down that an export was handed, or was to be handed in a run?
+    /// For which of K3's questions, or for K6's limits, was nothing left out that an export was handed, or was to be in a run?
     pub fn never_left_out(&self, mut exports: impl Iterator<Item = Export>) -> Option<String> {
         exports.find_map(|Export { name, beyond, .. }| {
             let missing = beyond.iter().find(|beyond| !self.left_out.contains_key(&(name, **beyond)))?;

@@ -9,8 +9,8 @@ mul-room : tie.Need-mul-room
 mul-room c =
     let a = c .args in
     let n : a .chunks ≤ 65535 = omega arith in
-    let l : a .later ≤ 4072 = omega arith in
-    let m : a .chunks * a .later ≤ 65535 * 4072 = mul-le-mul n l in
+    let l : a .later ≤ 16383 = omega arith in
+    let m : a .chunks * a .later ≤ 65535 * 16383 = mul-le-mul n l in
     omega arith
 
 returns : tie.Need-returns

@@ -8,7 +8,7 @@ use lib.ListN.{length}
 use Rattle.seven_bit.specs.Parts.{put, joined}
 use Rattle.seven_bit.proofs.PartLaws.{put-none, length-put}
 use Rattle.pe_frame.specs.Write.{chunkLen}
-use Rattle.pe_chunker.specs.Cut.{bodyPieces, chunkAt}
+use Rattle.pe_chunker.specs.Cut.{maxSysexMax, bodyPieces, chunkAt}
 use Rattle.pe_chunker.specs.Split.{firstChunks, allChunks}
 use Rattle.pe_chunker.proofs.CutLaws.{budget-between}
 use Rattle.pe_chunker.proofs.ChunkLaws.{chunk-short}
@@ -30,7 +30,7 @@ abbrev start : tie.After-put-piece Inv-loop μ-loop → tie.Start Inv-loop μ-lo
 start c = c .before .before .before .before .before .before .before .before
 
 -- the chunk's length: that of a chunk of the cut, which the limit bounds
-short : (c : tie.After-put-piece Inv-loop μ-loop) → c .put-piece .result ≤ 4081
+short : (c : tie.After-put-piece Inv-loop μ-loop) → c .put-piece .result ≤ maxSysexMax
 short c =
     let a = start c in
     let k = c .before .before .before .loop .k in
