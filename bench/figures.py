@@ -46,17 +46,22 @@ class Row:
         """How many megabytes of a tape the program plays in a second."""
         return int(self.name.split()[0]) / self.median["tape"] * 1e9
 
+    def limit(self):
+        """The limit at which a body of 65,536 bytes is cut, if it is."""
+        cut = re.search(r"65536 bytes at (\d+)", self.name)
+        return int(cut.group(1)) if cut else None
+
     def target(self):
         """The most that port / Rust may be, if anything."""
         if self.table in ("chunk by chunk", "tapes"):
             return None
-        if self.table == "split" and "65536 bytes" in self.name:
+        if self.table == "split" and self.limit() in (128, 256, 4096):
             return 0.5
-        return 0.6 if "65536 bytes at 128" in self.name else 1.0
+        return 0.6 if self.limit() == 128 else 1.0
 
     def copies_target(self):
         """The most that port / two copies may be, if anything."""
-        return 1.5 if "65536 bytes at 4096" in self.name and self.target() else None
+        return 1.5 if self.limit() in (4096, 16384) and self.target() else None
 
     def time_target(self):
         """The most nanoseconds that the port may take."""
