@@ -60,7 +60,7 @@ enum midici_pe_refusal {
     MIDICI_PE_BAD_FIELD = 1,               /* a byte above 7F, a number out of range, or bytes left over behind a chunk */
     MIDICI_PE_TRUNCATED = 2,               /* a chunk ends too early */
     MIDICI_PE_BUFFER_TOO_SMALL = 3,        /* `out` or `lengths` is too short */
-    MIDICI_PE_HEADER_TOO_LARGE = 4,        /* the header does not fit into the first chunk, or into the table */
+    MIDICI_PE_HEADER_TOO_LARGE = 4,        /* the header is too long to be cut, or does not fit into the table */
     MIDICI_PE_OVERSIZE = 5,                /* too many chunks, or the body does not fit into the table */
     MIDICI_PE_TOO_MANY_CONCURRENT = 6,     /* the peer has four lists open, none with this request id */
     MIDICI_PE_PEER_TABLE_FULL = 7,         /* every peer record is taken by another peer with a list open */
@@ -175,8 +175,8 @@ typedef struct midici_pe_request_id {
 midici_pe_request_id midici_pe_alloc_out_request_id(uint8_t counter);
 
 /* `count` is how many chunks the header and the body are cut into (1 to 16,383). No message with one of them is longer than
- * `max_sysex` bytes, F0 and F7 included; `max_sysex` is taken as 128 if it is less, and as 16,384 if it is more. So name
- * what the receiver says that it takes, and not more.
+ * `max_sysex` bytes, F0 and F7 included; `max_sysex` is taken as 128 if it is less, and as 16,384 if it is more. So
+ * name what the receiver says that it takes.
  * Refusals: 1 request_id above 7F, or a byte of the header or the body above 7F; 4 the header has more than
  * MIDICI_PE_HEADER_BYTES, for which no table has room, or does not fit into the first chunk; 5 more than 16,383 chunks. */
 midici_pe_answer midici_pe_chunk_count(uint8_t request_id, const uint8_t *header, size_t header_len, const uint8_t *body,
@@ -192,10 +192,10 @@ midici_pe_cut midici_pe_split(uint8_t request_id, const uint8_t *header, size_t 
                               size_t body_len, uint32_t max_sysex, uint8_t *out, size_t out_len, uint16_t *lengths,
                               size_t lengths_len);
 
-/* Writes chunk `chunk_num` (1 is the first) of the same list into `out`. `count` is how many bytes it has, at most
- * MIDICI_PE_CHUNK_LEN; the rest of `out` keeps its bytes. With each call all bytes of the body are asked, whichever chunk
- * is written: to cut a list chunk by chunk takes time that grows with the square of the list. midici_pe_split asks them
- * once, so it is the one to call where there is room for all chunks.
+/* Writes chunk `chunk_num` (1 is the first) of the same list into `out`. `count` is how many bytes it has: at most 15 less
+ * than `max_sysex`, as that is taken, and so at most MIDICI_PE_CHUNK_LEN; the rest of `out` keeps its bytes. With each call
+ * all bytes of the body are asked, whichever chunk is written: to cut a list chunk by chunk takes time that grows with the
+ * square of the list. midici_pe_split asks them once, so it is the one to call where there is room for all chunks.
  * Refusals: those of midici_pe_chunk_count; 29 chunk_num is 0 or above the count; 3 `out` is too short. `out` is then as it
  * was. */
 midici_pe_answer midici_pe_split_chunk(uint8_t request_id, const uint8_t *header, size_t header_len, const uint8_t *body,

@@ -1,4 +1,4 @@
--- Document 01's marked examples hold.
+-- Document 01's marked examples and K6's of document 02 hold.
 -- Assumes nothing.
 use Prim.Native.Nat.{ℕ, zero, suc, _+_, _-_, _*_, _/_, min, _≤_}
 use mathlib.Core.Bool.{true}
@@ -22,78 +22,49 @@ use Rattle.pe_mcoded7.specs.Mcoded7.{readMcoded7, askGroups, askGroup, groups, 
 use Rattle.pe_controller.specs.Controller.{stepped}
 use Rattle.examples.specs.Examples.{carriedFrom, carried, Holds, AllHold, examples}
 
--- a cut of lengths that are known, whose header fits
-record Sized (id : ℕ) (header body : List ℕ) (limit h b m count : ℕ) : Type 0 where
-  low : id ≤ 127
-  header-bytes : isSevenBit header ≡ true
-  body-bytes : isSevenBit body ≡ true
-  header-is : length header ≡ h
-  body-is : length body ≡ b
-  later : laterCapacity limit ≡ m
-  fits : h ≤ m
-  chunks : 1 + (b - (m - h) + (m - 1)) / m ≡ count
-  receivable : h ≤ 4096
-  few : count ≤ 16383
-
 -- how many bytes of the body chunk k and those after it carry, n of them
 abbrev sizes : (h b m n k : ℕ) → List ℕ
 sizes h b m zero k = []
 sizes h b m (suc n) k = (min (k * m - h) b - min ((k - 1) * m - h) b) ∷ sizes h b m n (k + 1)
 
-module _ (id : ℕ) (header body : List ℕ) (limit h b m count : ℕ) (z : Sized id header body limit h b m count) where
-  counted : length (bodyPieces limit (length header) body) ≡ count
-  counted = pieces-count limit (length header) body ∙ rw (z .header-is, z .body-is, z .later) (z .chunks)
-
-  count-granted : cutCount id header body limit ≡ granted count
-  unfolding cutCount
-  count-granted =
-      let fits : length header ≤ laterCapacity limit = rw (z .header-is, z .later) (z .fits) in
-      cut-asked id header body limit _
-      (record {
-        low = z .low;
-        header-bytes = z .header-bytes;
-        body-bytes = z .body-bytes;
-        receivable = rw (z .header-is) (z .receivable);
-        fits = fits;
-        few = rw counted (z .few);
-      })
-      ∙ rw counted
-
-  -- the property of each chunk from k on, read back
-  carried-from : (n k : ℕ) → 1 ≤ k → n + k ≡ count + 1 → carriedFrom id header body limit n k ≡ granted (sizes h b m n k)
-  unfolding carriedFrom
-  carried-from zero k one e = refl
-  carried-from (suc n) k one e =
-      let w = budget-is-room id header body limit count k maxSysexMax count-granted one (omega arith) (let t = budget-between limit in omega arith) in
-      let r = chunk-reads-back id header body limit k maxSysexMax _ w in
-      let c : readChunk (chunkBytes (chunkAt id header body limit k)) ≡ granted (chunkAt id header body limit k) =
-      rw (r .0) (ap granted (r .1)) in
-      let p : length (chunkAt id header body limit k .property) ≡ min (k * m - h) b - min ((k - 1) * m - h) b =
-      property-length id header body limit count k count-granted one ∙ rw (z .header-is, z .body-is, z .later) refl in
-      rw (w, c, carried-from n (k + 1) (omega arith) (omega arith), p)
-
-  all-carried : carried id header body limit ≡ granted (sizes h b m count 1)
-  unfolding carried
-  all-carried = rw count-granted (carried-from count 1 (omega arith) refl)
-
 -- the cuts of the table
 module _ (id : ℕ) (header body : List ℕ) (i : id ≤ 127) (s : isSevenBit header ≡ true) (t : isSevenBit body ≡ true) where
-  cut-carried : (limit h b m count : ℕ) → length header ≡ h → length body ≡ b → laterCapacity limit ≡ m → h ≤ 4096 → h ≤ m
-      → 1 + (b - (m - h) + (m - 1)) / m ≡ count → count ≤ 16383 → carried id header body limit ≡ granted (sizes h b m count 1)
-  cut-carried limit h b m count eh eb el r f c n =
-      all-carried id header body limit h b m count
-      (record {
-        low = i;
-        header-bytes = s;
-        body-bytes = t;
-        header-is = eh;
-        body-is = eb;
-        later = el;
-        receivable = r;
-        fits = f;
-        chunks = c;
-        few = n;
-      })
+  -- lengths that are known, and a header that fits
+  module _ (limit h b m count : ℕ) (header-is : length header ≡ h) (body-is : length body ≡ b) (later : laterCapacity limit ≡ m) (receivable : h ≤ 4096)
+      (fits : h ≤ m) (chunks : 1 + (b - (m - h) + (m - 1)) / m ≡ count) (few : count ≤ 16383) where
+    counted : length (bodyPieces limit (length header) body) ≡ count
+    counted = pieces-count limit (length header) body ∙ rw (header-is, body-is, later) chunks
+
+    count-granted : cutCount id header body limit ≡ granted count
+    unfolding cutCount
+    count-granted =
+        cut-asked id header body limit _
+        (record {
+          low = i;
+          header-bytes = s;
+          body-bytes = t;
+          receivable = rw header-is receivable;
+          fits = rw (header-is, later) fits;
+          few = rw counted few;
+        })
+        ∙ rw counted
+
+    -- the property of each chunk from k on, read back
+    carried-from : (n k : ℕ) → 1 ≤ k → n + k ≡ count + 1 → carriedFrom id header body limit n k ≡ granted (sizes h b m n k)
+    unfolding carriedFrom
+    carried-from zero k one e = refl
+    carried-from (suc n) k one e =
+        let w = budget-is-room id header body limit count k maxSysexMax count-granted one (omega arith) (let t = budget-between limit in omega arith) in
+        let r = chunk-reads-back id header body limit k maxSysexMax _ w in
+        let c : readChunk (chunkBytes (chunkAt id header body limit k)) ≡ granted (chunkAt id header body limit k) =
+        rw (r .0) (ap granted (r .1)) in
+        let p : length (chunkAt id header body limit k .property) ≡ min (k * m - h) b - min ((k - 1) * m - h) b =
+        property-length id header body limit count k count-granted one ∙ rw (header-is, body-is, later) refl in
+        rw (w, c, carried-from n (k + 1) (omega arith) (omega arith), p)
+
+    cut-carried : carried id header body limit ≡ granted (sizes h b m count 1)
+    unfolding carried
+    cut-carried = rw count-granted (carried-from count 1 (omega arith) refl)
 
   five-chunks : length header ≡ 48 → length body ≡ 1000 → carried id header body 256 ≡ granted (184 ∷ 232 ∷ 232 ∷ 232 ∷ 120 ∷ [])
   unfolding laterCapacity budget clamped
@@ -123,7 +94,7 @@ module _ (id : ℕ) (header body : List ℕ) (i : id ≤ 127) (s : isSevenBit he
       let count = length (bodyPieces 16384 (length header) body) in
       rw (cut-long id header body 16384 (granted count) i s t (omega arith))
 
--- All marked examples hold.
+-- All of them hold.
 pub examples-hold : AllHold examples
 unfolding Holds AllHold examples withinCount readEnd readFields clamped budget laterCapacity firstCapacity askFirst readU14 writeU14 readMuid
     readMcoded7 askGroups askGroup groups decoded groupData restored pieces joined isSevenBit numberOf bytesOf stepped

@@ -1,4 +1,4 @@
--- Document 01's marked examples: one table, in its order, over the definitions that contracts cite.
+-- Document 01's marked examples, in its order, and K6's of document 02: one table, over the definitions that contracts cite.
 -- Assumes nothing.
 use Prim.Native.Nat.{ℕ, zero, suc, _+_, _≤_}
 use mathlib.Core.Bool.{true}
