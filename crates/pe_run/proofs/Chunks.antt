@@ -186,7 +186,7 @@ chunk-in bytes f q = rw q
 
 -- ---- the cutter's chunks are such a list
 -- a later chunk carries at least 104 bytes, so there are few
-pieces-few : (limit header-len : ℕ) (body : List ℕ) → length body ≤ 65536 → length (bodyPieces limit header-len body) ≤ 2048
+pub pieces-few : (limit header-len : ℕ) (body : List ℕ) → length body ≤ 65536 → length (bodyPieces limit header-len body) ≤ 2048
 pieces-few limit header-len body h =
     let m = laterCapacity limit in
     let r = length body - (m - header-len) + (m - 1) in

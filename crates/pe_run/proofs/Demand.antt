@@ -1,14 +1,19 @@
 -- Demand 3, proved: every answer of every run is the model's, no peer has more than four open, and a list whose chunks arrive is handed out.
 -- Assumes nothing.
-use Prim.Native.Nat.{ℕ, _≤_}
+use Prim.Native.Nat.{ℕ, _+_, _≤_}
+use mathlib.Core.Bool.{true}
 use mathlib.Core.List.{List, [], _∷_, map}
 use mathlib.Core.Path.{_≡_, refl}
 use native.Mathlib.Omega.{arith}
 use lib.Dec.{eqb}
+use lib.ListN.{length}
+use Rattle.seven_bit.specs.Parts.{joined}
 use Rattle.seven_bit.specs.Reply.{granted}
-use Rattle.pe_chunker.specs.Split.{cutList}
-use Rattle.pe_chunker.specs.Cut.{maxSysexMax}
-use Rattle.pe_chunker.proofs.CutLaws.{budget-between}
+use Rattle.seven_bit.specs.SevenBit.{isSevenBit}
+use Rattle.pe_chunker.specs.Split.{allChunks, cutList}
+use Rattle.pe_chunker.specs.Cut.{maxSysexMax, clamped, budget, Cut}
+use Rattle.pe_chunker.proofs.CutLaws.{budget-between, later-is}
+use Rattle.pe_chunker.proofs.SplitLaws.{list-granted}
 use Rattle.pe_chunker.proofs.Theorems.{split-count, split-each}
 use Rattle.pe_reassembler.specs.declared.shape.Shape.{Shape}
 use Rattle.pe_reassembler.specs.Open.{Shown, openSlots}
@@ -23,6 +28,7 @@ use Rattle.pe_run.proofs.RowLaws.{open-rows}
 use Rattle.pe_run.proofs.Refine.{four-open}
 use Rattle.pe_run.proofs.Kept.{Kept, kept-new, step-kept, right}
 use Rattle.pe_run.proofs.Ahead.{long-enough}
+use Rattle.pe_run.proofs.Chunks.{pieces-few}
 use Rattle.pe_run.proofs.Deliver.{deliver}
 
 -- of the rows that show what is open, as many are a peer's
@@ -72,6 +78,24 @@ split-into request-id header body limit room places chunks q =
       count = split-count request-id header body limit room places chunks q;
       each = λ k l. split-each request-id header body limit room places chunks q k maxSysexMax l (omega (arith, budget-between limit));
     }
+
+-- Every list that a full-size table has room for is cut into such chunks, where its header fits beside nine bytes,
+pub room-into : (request-id : ℕ) (header body : List ℕ) (limit : ℕ) → request-id ≤ 127 → isSevenBit header ≡ true → isSevenBit body ≡ true
+    → length header ≤ 4096 → length body ≤ 65536 → length header + 9 ≤ budget limit
+    → CutInto request-id header body limit (allChunks request-id header body limit)
+room-into request-id header body limit i s t r b h =
+    let chunks = allChunks request-id header body limit in
+    let few = pieces-few limit (length header) body b in
+    let cut : Cut request-id header body limit =
+    record { low = i; header-bytes = s; body-bytes = t; receivable = r; fits = omega (arith, later-is limit); few = omega arith } in
+    split-into request-id header body limit (length (joined chunks)) (length chunks) chunks
+    (list-granted request-id header body limit (length (joined chunks)) (length chunks) cut (omega arith) (omega arith))
+
+-- and at the largest limit it always does.
+pub largest-into : (request-id : ℕ) (header body : List ℕ) → request-id ≤ 127 → isSevenBit header ≡ true → isSevenBit body ≡ true
+    → length header ≤ 4096 → length body ≤ 65536 → CutInto request-id header body maxSysexMax (allChunks request-id header body maxSysexMax)
+unfolding budget clamped
+largest-into request-id header body i s t r b = room-into request-id header body maxSysexMax i s t r b (omega arith)
 
 -- ---- full size
 pub demand : Demand
