@@ -61,7 +61,7 @@ static const struct cut_case {
     {"the longest header at 4096", 1, 4072, 0, 1, 0, 4096, 0, 2, 0, 1},
     {"one longer", 1, 4073, 0, 1, 0, 4096, 4, 0, 0, 0},
     {"the longest header, which leaves nothing", 1, 4096, 0, 1, 0, 4120, 0, 2, 0, 1},
-    {"it does not fit", 1, 4096, 0, 1, 0, 4119, 4, 0, 0, 0},
+    {"the longest header, at one byte less", 1, 4096, 0, 1, 0, 4119, 4, 0, 0, 0},
     {"the longest header at the largest limit", 1, 4096, 0, 12265, 0, 16384, 0, 2, 12264, 1},
     {"a header of 4,097, which would fit", 1, 4097, 0, 0, 0, 16384, 4, 0, 0, 0},
     {"a header of 16,360, which would fit", 1, 16360, 0, 0, 0, 16384, 4, 0, 0, 0},

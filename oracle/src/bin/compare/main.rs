@@ -79,10 +79,8 @@ fn compare_all(op: Op, export: Export, seed: u64, cases: u64, summary: &mut Summ
 fn compare_functions(seed: u64, cases: u64, summary: &mut Summary) -> Result<(), String> {
     println!("The port and the original, seed {seed}, {cases} random cases for each function but those with all inputs");
     println!("How often each export was called, and each answer came, refusals by their numbers. Left out are calls to which");
-    println!(
-        "the original gives another answer than document 02 (K3), and limits above 4,096, which it takes as 4,096 (K6): they"
-    );
-    println!("are compared with a reading of that document.");
+    println!("the original gives another answer than document 02 (K3), and limits above 4,096, which it takes as that (K6):");
+    println!("they are compared with a reading of that document.");
     for (op, export) in Op::ALL {
         compare_all(op, export, seed, cases, summary)?;
         let all = if op.row().all_compared { ", all inputs" } else { "" };
