@@ -22,7 +22,7 @@ pub enum Beyond {
     Limit,
 }
 
-/// Why those of the functions do not stand that read or write a chunk, the cutter's, its capacities', and a slot's.
+/// Why it may not stand: of a function that reads or writes a chunk, of the cutter, of its capacities, and of a slot.
 pub const OF_CHUNK: [Beyond; 2] = [Beyond::PropertyByte, Beyond::OwnCount];
 pub const OF_CUTTER: [Beyond; 2] = [Beyond::PropertyByte, Beyond::Limit];
 pub const OF_CAPACITY: [Beyond; 1] = [Beyond::Limit];

@@ -65,7 +65,8 @@ impl<'a> Cut<'a> {
         (header, &self.list.body[self.carried(k - 1)..self.carried(k)])
     }
 
-    /// Its bytes: "Request id, header length (14 bits), header, frame count (14), frame number (14), property length (14), property."
+    /// Its bytes: "Request id, header length (14 bits), header, frame count (14), frame number (14), property length (14),
+    /// property."
     fn chunk(&self, k: usize) -> Vec<u8> {
         let (header, property) = self.parts(k);
         let field = |n: usize| [(n % 128) as u8, (n / 128) as u8];

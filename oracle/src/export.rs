@@ -1,8 +1,8 @@
 //! The port's exports, and the numbers with which each can refuse.
 use crate::beyond::Beyond;
 
-/// Its name, and the numbers of the questions that it can answer no, in document 01's order, or 02's; and why the original's answer
-/// does not always stand.
+/// Its name, and the numbers of the questions that it can answer no, in document 01's order, or 02's; and why the original's
+/// answer does not always stand.
 #[derive(Clone, Copy)]
 pub struct Export {
     pub name: &'static str,

@@ -74,7 +74,7 @@ impl Row {
         Row { room: cutter::chunks_room, ..self }
     }
 
-    /// K3 brings it these questions.
+    /// Its answer may not stand for these reasons, and the reading tells where K3's are met.
     const fn beyond(self, beyond: &'static [Beyond], reading: Reading) -> Row {
         Row { export: Export { beyond, ..self.export }, reading: Some(reading), ..self }
     }

@@ -1,12 +1,12 @@
-//! A list cut. The Rust gives all chunks in one new list; at 16,384, where it does not cut, a plain Rust cutter does (oracle/src/cut.rs).
-//! The port writes them one behind the other into one output, with their lengths, in one call; or it counts them, and then writes them
-//! one by one into one buffer.
+//! A list cut. The Rust gives all chunks in one new list; at 16,384, where it does not cut, a plain Rust cutter does so
+//! (oracle/src/cut.rs). The port writes them one behind the other into one output, with their lengths, in one call; or it counts
+//! them, and then writes them one by one into one buffer.
 use crate::inputs::List;
 use crate::port;
 use crate::row::{Row, Side};
 use std::hint::black_box;
 
-/// The longest chunk.
+/// Room for the longest chunk.
 const ROOM: usize = 16_384;
 
 pub fn each(visit: &mut impl FnMut(Row)) {

@@ -30,8 +30,8 @@ sizes h b m (suc n) k = (min (k * m - h) b - min ((k - 1) * m - h) b) ∷ sizes 
 -- the cuts of the table
 module _ (id : ℕ) (header body : List ℕ) (i : id ≤ 127) (s : isSevenBit header ≡ true) (t : isSevenBit body ≡ true) where
   -- lengths that are known, and a header that fits
-  module _ (limit h b m count : ℕ) (header-is : length header ≡ h) (body-is : length body ≡ b) (later : laterCapacity limit ≡ m) (receivable : h ≤ 4096)
-      (fits : h ≤ m) (chunks : 1 + (b - (m - h) + (m - 1)) / m ≡ count) (few : count ≤ 16383) where
+  module _ (limit h b m count : ℕ) (header-is : length header ≡ h) (body-is : length body ≡ b) (later : laterCapacity limit ≡ m)
+      (receivable : h ≤ 4096) (fits : h ≤ m) (chunks : 1 + (b - (m - h) + (m - 1)) / m ≡ count) (few : count ≤ 16383) where
     counted : length (bodyPieces limit (length header) body) ≡ count
     counted = pieces-count limit (length header) body ∙ rw (header-is, body-is, later) chunks
 

@@ -1,4 +1,5 @@
-// Document 01's examples in its order, by the functions themselves. Those that it marks are also proved of the definitions (specs/).
+// Document 01's examples in its order, and K6's, by the functions themselves. Those that are marked, and K6's, are also proved of the
+// definitions (specs/).
 mod codec;
 mod cut;
 mod print;

@@ -47,6 +47,9 @@ budget-is limit = let h = clamped-between limit in omega arith
 pub budget-between : (limit : ℕ) → (113 ≤ budget limit) × (budget limit + 15 ≤ maxSysexMax)
 budget-between limit = let h = clamped-between limit in let e = budget-is limit in (omega arith, omega arith)
 
+pub framing-fits : (limit : ℕ) → 9 ≤ budget limit
+framing-fits limit = omega (arith, budget-between limit)
+
 pub later-is : (limit : ℕ) → laterCapacity limit + 9 ≡ budget limit
 unfolding laterCapacity
 later-is limit = let h = budget-between limit in omega arith

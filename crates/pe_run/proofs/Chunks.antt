@@ -17,7 +17,7 @@ use Rattle.seven_bit.proofs.ReplyLaws.{both}
 use Rattle.pe_frame.specs.Chunk.{Chunk, chunkFrom, Fields, readFields, chunkOf}
 use Rattle.pe_frame.proofs.RoundTrip.{fields}
 use Rattle.pe_slot.specs.Slot.{Piece, bodyLen, inOrder, bodyOf}
-use Rattle.pe_chunker.specs.Cut.{maxSysexMax, laterCapacity, bodyPieces, chunkAt}
+use Rattle.pe_chunker.specs.Cut.{laterCapacity, bodyPieces, chunkAt}
 use Rattle.pe_chunker.proofs.CutLaws.{later-between}
 use Rattle.pe_chunker.proofs.PieceLaws.{pieces-count}
 use Rattle.pe_chunker.proofs.ChunkLaws.{count-told}
@@ -209,7 +209,7 @@ cut-chunks id header body limit chunks c =
         ≡ getD (chunksFrom id header (length (bodyPieces limit (length header) body)) 1 (bodyPieces limit (length header) body)) i (chunkIn [])
     same i l n =
         let ss = bodyPieces limit (length header) body in
-        let r = chunk-reads-back id header body limit (suc i) maxSysexMax (getD chunks i []) (c .each i l) in
+        let r = chunk-reads-back id header body limit (suc i) _ (getD chunks i []) (c .each i l) in
         let shape : chunkAt id header body limit (suc i) ≡ numbered id header (length ss) (suc i) (getD ss (suc i - 1) []) = unfold chunkAt in refl in
         let back : suc i - 1 ≡ i = omega arith in
         let on : suc i ≡ 1 + i = omega arith in

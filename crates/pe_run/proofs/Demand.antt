@@ -76,7 +76,7 @@ pub split-into : (request-id : ℕ) (header body : List ℕ) (limit room places 
 split-into request-id header body limit room places chunks q =
     record {
       count = split-count request-id header body limit room places chunks q;
-      each = λ k l. split-each request-id header body limit room places chunks q k maxSysexMax l (omega (arith, budget-between limit));
+      each = λ k l. split-each request-id header body limit room places chunks q k _ l (omega (arith, budget-between limit));
     }
 
 -- Every list that a full-size table has room for is cut into such chunks, where its header fits beside nine bytes,

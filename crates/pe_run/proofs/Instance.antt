@@ -20,9 +20,7 @@ use Rattle.pe_frame.proofs.ChunkLaws.{InRange, ask-yes}
 use Rattle.pe_frame.proofs.RoundTrip.{bytes-read, bytes-chunk, whole-then-read, read-bytes-are, fields}
 use Rattle.pe_slot.specs.Slot.{Piece, held, allHeld, bodyLen, isWhole, eventOf, headerFits, sameHeader, headerAgrees, noneKnown, newHeader}
 use Rattle.pe_slot.specs.Slot.{heldWithin, countAgrees, newCount, afterChunk, passed, judge}
-use Rattle.pe_chunker.specs.Cut.{maxSysexMax, clamped, budget, laterCapacity, firstCapacity, askFirst, cutUp, bodyPieces, chunkAt}
-use Rattle.pe_chunker.specs.Cut.{askCut, cutCount, cutChunk}
-use Rattle.pe_chunker.proofs.CutLaws.{budget-between}
+use Rattle.pe_chunker.specs.Cut.{clamped, budget, laterCapacity, firstCapacity, askFirst, cutUp, bodyPieces, chunkAt, askCut, cutCount, cutChunk}
 use Rattle.pe_chunker.proofs.Theorems.{fields-in-range, budget-is-room}
 use Rattle.pe_reassembler.specs.Open.{Perm, swap}
 use Rattle.pe_reassembler.specs.Table.{isMuid}
@@ -65,16 +63,18 @@ unfolding chunkAt bodyPieces cutUp firstCapacity laterCapacity budget clamped
 second-chunk = refl
 
 cut : CutInto 5 header body 128 (chunkBytes one ∷ chunkBytes two ∷ [])
-cut = record { count = cut-count; each = each }
+unfolding budget clamped
+cut = record { count = cut-count; each = each _ (omega arith) }
   where
-    each : (k : ℕ) → k < 2 → cutChunk 5 header body 128 (suc k) maxSysexMax ≡ granted (getD (chunkBytes one ∷ chunkBytes two ∷ []) k [])
-    each zero l =
-        budget-is-room 5 header body 128 2 1 maxSysexMax cut-count (omega arith) (omega arith) (omega (arith, budget-between 128))
+    each : (room : ℕ) → budget 128 ≤ room → (k : ℕ) → k < 2
+        → cutChunk 5 header body 128 (suc k) room ≡ granted (getD (chunkBytes one ∷ chunkBytes two ∷ []) k [])
+    each room r zero l =
+        budget-is-room 5 header body 128 2 1 room cut-count (omega arith) (omega arith) r
         ∙ ap (λ (c : Chunk). granted (chunkBytes c)) first-chunk
-    each (suc zero) l =
-        budget-is-room 5 header body 128 2 2 maxSysexMax cut-count (omega arith) (omega arith) (omega (arith, budget-between 128))
+    each room r (suc zero) l =
+        budget-is-room 5 header body 128 2 2 room cut-count (omega arith) (omega arith) r
         ∙ ap (λ (c : Chunk). granted (chunkBytes c)) second-chunk
-    each (suc (suc k)) l = absurd (omega arith)
+    each room r (suc (suc k)) l = absurd (omega arith)
 
 one-in-range : InRange one
 one-in-range = subst InRange first-chunk (fields-in-range 5 header body 128 2 1 cut-count (omega arith) (omega arith))

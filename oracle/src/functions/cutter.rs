@@ -4,9 +4,11 @@ use crate::beyond::Asked;
 use crate::cut;
 use crate::input::{from, u16_at, u32_at, u64_at, List};
 use crate::inputs::{changed, random_room, room, with_random_room, with_room, Each};
+use crate::layout::HEADER_BYTES;
 use crate::outcome::{copy_in, Outcome, Refusal};
 use crate::rng::Rng;
 use midici_pe::chunker::{self, first_chunk_property_capacity, later_chunk_property_capacity};
+use std::fmt::Debug;
 
 const LIMITS: [u32; 14] = [0, 127, 128, 129, 130, 256, 4_095, 4_096, 4_097, 5_000, 16_383, 16_384, 16_385, u32::MAX];
 
@@ -15,7 +17,7 @@ pub fn limits(each: Each) {
     (0..=20_000).chain(u32::MAX - 5_000..=u32::MAX).for_each(|limit: u32| each(&limit.to_le_bytes()));
 }
 
-/// Header lengths to above every budget, and the last ones that the original can add to.
+/// Header lengths around every budget, and the last ones that the original can add to.
 pub fn header_lengths(each: Each) {
     let last = u64::MAX - 9;
     let lengths = (0..=5_000).chain(16_350..=16_390).chain([1 << 31, 1 << 32, 1 << 63]).chain(last - 3..=last);
@@ -39,7 +41,8 @@ fn body_lengths(max_sysex: u32, header_len: usize) -> Vec<usize> {
     lengths
 }
 
-/// At small limits all header lengths from 0 to 130, at others some of them; and some around what a chunk, a table and a field hold.
+/// At small limits all header lengths from 0 to 130, at others some of them; and some around what a chunk, a table and a field
+/// hold.
 fn header_lens(max_sysex: u32) -> impl Iterator<Item = usize> {
     let longer = [4_071, 4_072, 4_073, 4_095, 4_096, 4_097, 16_360, 16_361, 16_383, 16_384, 16_385];
     (0..=130).step_by(if max_sysex <= 256 { 1 } else { 13 }).chain(longer)
@@ -163,7 +166,7 @@ pub fn random_header_length(rng: &mut Rng) -> Vec<u8> {
 pub fn random_to_count(rng: &mut Rng) -> Vec<u8> {
     let max_sysex = if rng.once_in(2) { 128 } else { any_limit(rng) };
     let later = cut::later(max_sysex);
-    let header_len = if rng.once_in(8) { rng.around(later.min(4_096)) } else { rng.below(60) };
+    let header_len = if rng.once_in(8) { rng.around(later.min(HEADER_BYTES)) } else { rng.below(60) };
     let first = first(max_sysex, header_len);
     let chunks = if rng.once_in(64) { rng.below(40) } else { rng.below(4) };
     let body_len = if rng.once_in(2) { rng.around(first + chunks * later) } else { rng.below(120) };
@@ -195,14 +198,12 @@ pub fn random_limit(rng: &mut Rng) -> Vec<u8> {
     any_limit(rng).to_le_bytes().to_vec()
 }
 
-/// What the original makes of the limit in front of an input; of one of K6's, what the reading makes of it.
-fn of_limit<T>(input: &[u8], original: fn(u32) -> T, reading: fn(u32) -> T) -> T {
+/// What the reading makes of the limit in front of an input, and, if it is none of K6's, the original too.
+fn of_limit<T: PartialEq + Debug>(input: &[u8], original: fn(u32) -> T, reading: fn(u32) -> T) -> T {
     let limit = u32_at(input, 0);
-    if cut::is_larger(limit) {
-        reading(limit)
-    } else {
-        original(limit)
-    }
+    let read = reading(limit);
+    assert!(cut::is_larger(limit) || original(limit) == read, "limit {limit}: the original is not what is read, {read:?}");
+    read
 }
 
 pub fn clamp_max_sysex(input: &[u8], _: Vec<u8>) -> Outcome {
@@ -220,12 +221,10 @@ pub fn later_capacity(input: &[u8], _: Vec<u8>) -> Outcome {
 /// No case has a length from 2^64 - 9 on: there the original's sum overflows.
 pub fn first_capacity(input: &[u8], _: Vec<u8>) -> Outcome {
     let (limit, header_len) = (u32_at(input, 0), u64_at(input, 4) as usize);
-    let capacity = if cut::is_larger(limit) {
-        cut::first(limit, header_len).map_err(|no| no.refusal)
-    } else {
-        first_chunk_property_capacity(limit, header_len).map_err(Refusal::from)
-    };
-    Outcome::of(capacity.map(|n| vec![n as u64]))
+    let read = cut::first(limit, header_len).map_err(|no| no.refusal);
+    let original = || first_chunk_property_capacity(limit, header_len).map_err(Refusal::from);
+    assert!(cut::is_larger(limit) || original() == read, "limit {limit}, header {header_len}: the original is not what is read");
+    Outcome::of(read.map(|n| vec![n as u64]))
 }
 
 pub fn chunk_count(input: &[u8], _: Vec<u8>) -> Outcome {
@@ -237,12 +236,15 @@ pub fn chunk_count_by_02(input: &[u8]) -> Asked<Vec<u64>> {
     Ok(vec![cut::cut(List::read(input))?.chunks as u64])
 }
 
-/// All chunks, from the original or of K6's limits from the reading.
+/// All chunks: the original's, which are the reading's too where K3 turns nothing down; or of K6's limits the reading's.
 pub fn split(list: List) -> Result<Vec<Vec<u8>>, Refusal> {
+    let read = cut::split(list);
     if cut::is_larger(list.max_sysex) {
-        return cut::split(list).map_err(|no| no.refusal);
+        return read.map_err(|no| no.refusal);
     }
-    chunker::split(list.request_id, list.header, list.body, list.max_sysex).map_err(Refusal::from)
+    let original = chunker::split(list.request_id, list.header, list.body, list.max_sysex);
+    assert!(read.is_err() || original.as_ref().ok() == read.as_ref().ok(), "a list of the original is not what is read");
+    original.map_err(Refusal::from)
 }
 
 /// The original returns all chunks where the port writes one, so the last two questions are document 01's: "Is k from 1 to the

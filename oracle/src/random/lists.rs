@@ -33,35 +33,20 @@ pub fn list(rng: &mut Rng, sizes: Sizes, request_id: u8) -> Vec<Vec<u8>> {
     }
 }
 
+/// A list that is cut; once in 64 a chunk's property ends with a byte above 7F, so that the chunk is left out.
 pub fn cut(rng: &mut Rng, request_id: u8, header_len: usize, body_len: usize, max_sysex: u32) -> Vec<Vec<u8>> {
     let (header, body) = (seven_bit(rng, header_len), low(rng, body_len));
     let list = List { request_id, max_sysex, header: &header, body: &body };
     let mut chunks = cutter::split(list).expect("a list that can be cut");
-    if body_len > 0 && rng.once_in(64) {
-        *body_byte(&mut chunks, header_len, rng.below(body_len)) |= 0x80;
+    let k = rng.below(chunks.len());
+    let property_at = if k == 0 { 9 + header_len } else { 9 };
+    if rng.once_in(64) {
+        chunks[k][property_at..].iter_mut().last().into_iter().for_each(|last| *last |= 0x80);
     }
     chunks
 }
 
-/// A byte of the body, where it stands in the chunks: behind the header's and nine bytes more, or these alone.
-fn body_byte(chunks: &mut [Vec<u8>], header_len: usize, at: usize) -> &mut u8 {
-    let first = chunks[0].len() - (9 + header_len);
-    if at < first {
-        return &mut chunks[0][9 + header_len + at];
-    }
-    let later = chunks[1].len() - 9;
-    &mut chunks[1 + (at - first) / later][9 + (at - first) % later]
-}
-
-/// Bytes up to 7F, eight for each number drawn; once in 64 with one above, whose chunk is left out.
-fn body(rng: &mut Rng, n: usize) -> Vec<u8> {
-    let mut body = low(rng, n);
-    if n > 0 && rng.once_in(64) {
-        body[rng.below(n)] |= 0x80;
-    }
-    body
-}
-
+/// Bytes up to 7F, eight for each number drawn.
 fn low(rng: &mut Rng, n: usize) -> Vec<u8> {
     rng.fill(n).iter().map(|b| b & 0x7F).collect()
 }
@@ -155,7 +140,7 @@ pub fn wrong(rng: &mut Rng, raw_chunk: &[u8]) -> Vec<u8> {
         6 => chunk.chunk_num = 0,
         7 => chunk.chunk_num = 1,
         8 => other_header(rng, &mut chunk),
-        9 => chunk.property = body(rng, chunk.property.len() / 2),
+        9 => chunk.property = low(rng, chunk.property.len() / 2),
         _ => {
             chunks::damage(rng, &mut raw_chunk);
             return raw_chunk;

@@ -3,13 +3,13 @@ use borrow.Author.Needs.{needs}
 use Rattle.pe_chunker.proofs.later_chunk_property_capacity.Statement.{statement}
 use Rattle.pe_chunker.proofs.later_chunk_property_capacity.Tie as tie
 use Rattle.pe_chunker.specs.Cut.{laterCapacity}
-use Rattle.pe_chunker.proofs.CutLaws.{budget-between}
+use Rattle.pe_chunker.proofs.CutLaws.{framing-fits}
 
 pe-payload-budget-requires : tie.Need-pe-payload-budget-requires
 pe-payload-budget-requires c κs = search needs
 
 sub-result : tie.Need-sub-result
-sub-result c = let h = budget-between (c .before .args .max-sysex) in omega arith
+sub-result c = rw (c .pe-payload-budget .ensures) (framing-fits _)
 
 returns : tie.Need-returns
 unfolding laterCapacity

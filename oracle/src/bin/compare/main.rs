@@ -1,10 +1,10 @@
 //! Compares the port with the original: `compare SEED CASES RUNS PROGRAM`. All inputs of a function where they are few; else all
 //! that are short or at the boundaries, and then CASES random ones; then RUNS runs of calls on a table; then a tape for every
-//! tenth run through PROGRAM, which is `tape`. What the original lacks is compared with a reading of document 02; so are lists cut
-//! at K6's limits, and what K3 turns down and the original does not, but in a run what it turns down by what a slot holds. It stops
-//! at the first difference. It fails too where an export is not compared, or never gave a refusal that it can give, where nothing
-//! was left out for one of K3's questions or for K6's limits, or where a kind of line never came. `compare tapes SEED TAPES PROGRAM`
-//! compares tapes alone, `compare exports` prints the names of the exports that are compared.
+//! tenth run through PROGRAM, which is `tape`. What the original lacks is compared with a reading of document 02; so are lists
+//! cut at K6's limits, and what K3 turns down and the original does not, but in a run what it turns down by what a slot holds. It
+//! stops at the first difference. It fails too where an export is not compared, or never gave a refusal that it can give, where
+//! nothing was left out for one of K3's questions or for K6's limits, or where a kind of line never came. `compare tapes SEED
+//! TAPES PROGRAM` compares tapes alone, `compare exports` prints the names of the exports that are compared.
 mod port;
 mod runs;
 mod state;

@@ -42,7 +42,7 @@ fn answer(case: &Case) -> Outcome {
 }
 
 /// Document 01's examples of these functions, and the ends of the counter and of the requests. Its chunk that ends in FF, which
-/// K3 turns down, ends in 7F here; the limit 5,000 is K6's.
+/// K3 turns down, ends in 7F here; the limit 5,000 is left out (K6).
 fn examples() -> Vec<Case> {
     let examples: &[(Op, &[u8])] = &[
         (Op::ReadU14Le7, &[0x68, 0x07]),
