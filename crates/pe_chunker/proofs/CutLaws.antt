@@ -47,8 +47,8 @@ budget-is limit = let h = clamped-between limit in omega arith
 pub budget-between : (limit : ℕ) → (113 ≤ budget limit) × (budget limit + 15 ≤ maxSysexMax)
 budget-between limit = let h = clamped-between limit in let e = budget-is limit in (omega arith, omega arith)
 
-pub framing-fits : (limit : ℕ) → 9 ≤ budget limit
-framing-fits limit = omega (arith, budget-between limit)
+pub few-fit : (n limit : ℕ) → n ≤ 113 → n ≤ budget limit
+few-fit n limit h = omega (arith, budget-between limit)
 
 pub later-is : (limit : ℕ) → laterCapacity limit + 9 ≡ budget limit
 unfolding laterCapacity
