@@ -177,7 +177,7 @@ midici_pe_request_id midici_pe_alloc_out_request_id(uint8_t counter);
 /* `count` is how many chunks the header and the body are cut into (1 to 16,383). No message with one of them is longer than
  * `max_sysex` bytes, F0 and F7 included; `max_sysex` is taken as 128 if it is less, and as 16,384 if it is more. So
  * name what the receiver says that it takes.
- * Refusals: 1 request_id above 7F, or a byte of the header or the body above 7F; 4 the header has more than
+ * Refusals: 1 request_id above 7F, or a byte of the header or the body above 7F; 4 the header is longer than
  * MIDICI_PE_HEADER_BYTES, for which no table has room, or does not fit into the first chunk; 5 more than 16,383 chunks. */
 midici_pe_answer midici_pe_chunk_count(uint8_t request_id, const uint8_t *header, size_t header_len, const uint8_t *body,
                                        size_t body_len, uint32_t max_sysex);

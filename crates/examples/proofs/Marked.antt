@@ -14,9 +14,10 @@ use Rattle.pe_wire.specs.Wire.{readU14, writeU14}
 use Rattle.pe_frame.specs.Chunk.{withinCount, readEnd, readFields, readChunk}
 use Rattle.pe_frame.specs.Write.{chunkBytes}
 use Rattle.pe_chunker.specs.Cut.{maxSysexMax, clamped, budget, laterCapacity, firstCapacity, askFirst, bodyPieces, chunkAt, cutCount}
-use Rattle.pe_chunker.proofs.AskLaws.{cut-long, cut-wide, cut-asked}
+use Rattle.pe_chunker.proofs.AskLaws.{cut-long, cut-wide}
 use Rattle.pe_chunker.proofs.PieceLaws.{pieces-count}
 use Rattle.pe_chunker.proofs.CutLaws.{budget-between}
+use Rattle.pe_chunker.proofs.SplitLaws.{count-granted}
 use Rattle.pe_chunker.proofs.Theorems.{property-length, budget-is-room, chunk-reads-back}
 use Rattle.pe_mcoded7.specs.Mcoded7.{readMcoded7, askGroups, askGroup, groups, decoded, groupData, restored}
 use Rattle.pe_controller.specs.Controller.{stepped}
@@ -35,10 +36,9 @@ module _ (id : ℕ) (header body : List ℕ) (i : id ≤ 127) (s : isSevenBit he
     counted : length (bodyPieces limit (length header) body) ≡ count
     counted = pieces-count limit (length header) body ∙ rw (header-is, body-is, later) chunks
 
-    count-granted : cutCount id header body limit ≡ granted count
-    unfolding cutCount
-    count-granted =
-        cut-asked id header body limit _
+    all-granted : cutCount id header body limit ≡ granted count
+    all-granted =
+        count-granted id header body limit
         (record {
           low = i;
           header-bytes = s;
@@ -47,24 +47,24 @@ module _ (id : ℕ) (header body : List ℕ) (i : id ≤ 127) (s : isSevenBit he
           fits = rw (header-is, later) fits;
           few = rw counted few;
         })
-        ∙ rw counted
+        ∙ ap granted counted
 
     -- the property of each chunk from k on, read back
     carried-from : (n k : ℕ) → 1 ≤ k → n + k ≡ count + 1 → carriedFrom id header body limit n k ≡ granted (sizes h b m n k)
     unfolding carriedFrom
     carried-from zero k one e = refl
     carried-from (suc n) k one e =
-        let w = budget-is-room id header body limit count k maxSysexMax count-granted one (omega arith) (let t = budget-between limit in omega arith) in
+        let w = budget-is-room id header body limit count k maxSysexMax all-granted one (omega arith) (let t = budget-between limit in omega arith) in
         let r = chunk-reads-back id header body limit k maxSysexMax _ w in
         let c : readChunk (chunkBytes (chunkAt id header body limit k)) ≡ granted (chunkAt id header body limit k) =
         rw (r .0) (ap granted (r .1)) in
         let p : length (chunkAt id header body limit k .property) ≡ min (k * m - h) b - min ((k - 1) * m - h) b =
-        property-length id header body limit count k count-granted one ∙ rw (header-is, body-is, later) refl in
+        property-length id header body limit count k all-granted one ∙ rw (header-is, body-is, later) refl in
         rw (w, c, carried-from n (k + 1) (omega arith) (omega arith), p)
 
     cut-carried : carried id header body limit ≡ granted (sizes h b m count 1)
     unfolding carried
-    cut-carried = rw count-granted (carried-from count 1 (omega arith) refl)
+    cut-carried = rw all-granted (carried-from count 1 (omega arith) refl)
 
   five-chunks : length header ≡ 48 → length body ≡ 1000 → carried id header body 256 ≡ granted (184 ∷ 232 ∷ 232 ∷ 232 ∷ 120 ∷ [])
   unfolding laterCapacity budget clamped

@@ -41,7 +41,9 @@ pub fn cut(rng: &mut Rng, request_id: u8, header_len: usize, body_len: usize, ma
     let k = rng.below(chunks.len());
     let property_at = if k == 0 { 9 + header_len } else { 9 };
     if rng.once_in(64) {
-        chunks[k][property_at..].iter_mut().last().into_iter().for_each(|last| *last |= 0x80);
+        if let Some(last) = chunks[k][property_at..].last_mut() {
+            *last |= 0x80;
+        }
     }
     chunks
 }
