@@ -14,6 +14,7 @@ TITLES = {
     "chunk by chunk": "Split, chunk by chunk: one list, its chunks counted, and each written by a call of its own",
     "readers": "Readers: one call",
     "growth": "Growth: one feed, by the records that its slot holds before",
+    "open lists": "Open lists: one call, by the order of the ticks",
     "files": "Files: one .syx file, all its messages listed",
     "headers": "Headers: one name looked up",
     "tapes": "Tapes: one tape played by the program `tape`",

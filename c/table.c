@@ -1,8 +1,6 @@
 /* A table of lent slices. */
 #include "table.h"
 
-#include <string.h>
-
 bool shape_in_range(midici_pe_shape shape)
 {
     return shape.max_peers <= MIDICI_PE_MAX_PEERS && shape.header_bytes <= MIDICI_PE_HEADER_BYTES &&
@@ -70,30 +68,4 @@ bool told_same(struct told a, struct told b)
 {
     return a.refusal == b.refusal && a.value == b.value && a.numbers[0] == b.numbers[0] && a.numbers[1] == b.numbers[1] &&
            a.numbers[2] == b.numbers[2];
-}
-
-/* How often a row stands in three columns. */
-static uint64_t count_row(uint64_t *const columns[3], uint64_t count, const uint64_t row[3])
-{
-    uint64_t found = 0;
-    for (uint64_t i = 0; i < count; i++)
-        found += columns[0][i] == row[0] && columns[1][i] == row[1] && columns[2][i] == row[2];
-    return found;
-}
-
-bool table_same_rows(struct table *table, uint64_t count)
-{
-    uint64_t *columns[3], *wanted[3];
-    for (int i = 0; i < 3; i++) {
-        columns[i] = lent_words(&table->lent[OUT_PEERS + i]);
-        wanted[i] = (uint64_t *)(void *)table->lent[OUT_PEERS + i].kept;
-    }
-    for (uint64_t i = 0; i < count; i++) {
-        const uint64_t row[3] = {wanted[0][i], wanted[1][i], wanted[2][i]};
-        if (count_row(columns, count, row) != count_row(wanted, count, row))
-            return false;
-    }
-    for (int i = 0; i < 3 && count > 0; i++)
-        memcpy(columns[i], wanted[i], 8 * count);
-    return true;
 }

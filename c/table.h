@@ -125,10 +125,6 @@ extern const struct call calls[];
 /* Is the one answer the other? */
 bool told_same(struct told a, struct told b);
 
-/* After an open list of so many rows and its model: are the rows of the one those of the other? Their order is free: they
- * are then put as the model has them. */
-bool table_same_rows(struct table *table, uint64_t count);
-
 /* ---- The model of what has no table ---- */
 
 midici_pe_answer model_chunk_count(uint8_t request_id, const struct lent *header, const struct lent *body,

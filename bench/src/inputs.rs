@@ -32,19 +32,22 @@ pub fn seven_bit(rng: &mut Rng, n: usize) -> Vec<u8> {
     bytes(rng, n).iter().map(|b| b & 0x7F).collect()
 }
 
-/// In which order the chunks of a list come.
+/// In which order the chunks of a list come, or the ticks of slots.
 #[derive(Clone, Copy, PartialEq, Eq)]
 pub enum Order {
     InOrder,
+    Reversed,
     Shuffled,
 }
 
 impl Order {
-    pub const ALL: [Order; 2] = [Order::InOrder, Order::Shuffled];
+    pub const OF_CHUNKS: [Order; 2] = [Order::InOrder, Order::Shuffled];
+    pub const OF_TICKS: [Order; 3] = [Order::InOrder, Order::Reversed, Order::Shuffled];
 
     pub fn name(self) -> &'static str {
         match self {
             Order::InOrder => "in order",
+            Order::Reversed => "reversed",
             Order::Shuffled => "shuffled",
         }
     }
@@ -52,8 +55,10 @@ impl Order {
     /// The numbers from 1 to a count in this order.
     pub fn numbers(self, count: usize) -> Vec<u16> {
         let mut numbers: Vec<u16> = (1..=count as u16).collect();
-        if self == Order::Shuffled {
-            rng().shuffle(&mut numbers);
+        match self {
+            Order::InOrder => (),
+            Order::Reversed => numbers.reverse(),
+            Order::Shuffled => rng().shuffle(&mut numbers),
         }
         numbers
     }
@@ -116,7 +121,7 @@ pub fn one_byte_chunks(request_id: u8) -> Vec<Vec<u8>> {
     (1..=FRAGMENT_RECORDS as u16).map(|chunk_num| one_byte_chunk(request_id, chunk_num)).collect()
 }
 
-fn one_byte_chunk(request_id: u8, chunk_num: u16) -> Vec<u8> {
+pub fn one_byte_chunk(request_id: u8, chunk_num: u16) -> Vec<u8> {
     let header = if chunk_num == 1 { b"{}".to_vec() } else { Vec::new() };
     let property = vec![chunk_num as u8 & 0x7F];
     let chunk = PeChunk { request_id, header, num_chunks: FRAGMENT_RECORDS as u16, chunk_num, property };

@@ -49,6 +49,11 @@ impl Table {
     pub fn drop_peer(&mut self, peer: u32) {
         exports::midici_pe_drop_peer(SHAPE, &mut self.numbers, peer);
     }
+
+    /// Lists the open slots in the three columns: how many there are.
+    pub fn open_list(&self, [peers, request_ids, chunks_held]: &mut [Vec<u64>; 3]) -> usize {
+        exports::midici_pe_open_list(SHAPE, &self.numbers, peers, request_ids, chunks_held).count as usize
+    }
 }
 
 pub fn chunk_count(list: &List) -> usize {

@@ -3,6 +3,7 @@ mod feed;
 mod files;
 mod growth;
 mod headers;
+mod open_lists;
 mod readers;
 mod split;
 mod tapes;
@@ -15,6 +16,7 @@ pub fn each(mut visit: impl FnMut(Row)) {
     split::each(&mut visit);
     readers::each(&mut visit);
     growth::each(&mut visit);
+    open_lists::each(&mut visit);
     files::each(&mut visit);
     headers::each(&mut visit);
 }

@@ -3,9 +3,10 @@
  * A mixer sends its scene list to a hub, in chunks, by two cables. Both ends are played here: the mixer's side cuts the
  * list, at once, and sends each chunk behind a CI header; the hub's side feeds what arrives, turns down what does not
  * belong there, stray chunks among it, and puts the list together. At the weekend the same list comes once more, as a .syx
- * file, whose messages the hub finds and feeds. Of each list that is whole, the hub's staff see the resource, which its
- * header names. Each step is printed, with the bytes that travel. What arrived is compared with what was sent, both times:
- * the exit status is 0 if it is the same, 1 if it is not or if a call answered something else than the step expects. */
+ * file, whose messages the hub finds and feeds. Of the lists that are open, the hub's staff see the oldest on top, and of
+ * each that is whole the resource, which its header names. Each step is printed, with the bytes that travel. What arrived
+ * is compared with what was sent, both times: the exit status is 0 if it is the same, 1 if it is not or if a call answered
+ * something else than the step expects. */
 #include "midici_pe.h"
 
 #include <inttypes.h>
@@ -390,16 +391,19 @@ static void print_totals(uint64_t expected_open)
     must(stats.refusal == MIDICI_PE_OK && stats.active_slots == expected_open, "so many lists are open");
 }
 
-static void print_open_lists(uint64_t expected_open)
+/* What the hub's display shows; whose lists must be open, from the top, is expected. */
+static void print_open_lists(const uint32_t *expected_peers, uint64_t expected_open)
 {
     uint64_t peers[PLACES], request_ids[PLACES], chunks_held[PLACES];
     midici_pe_answer open =
         midici_pe_open_list(shape, numbers, NUMBERS_LEN, peers, PLACES, request_ids, PLACES, chunks_held, PLACES);
     must(open.refusal == MIDICI_PE_OK && open.count == expected_open, "so many lists are open");
-    printf("  The open lists:\n");
-    for (uint64_t i = 0; i < open.count; i++)
+    printf("  The open lists, the one that has waited longest for a chunk on top:\n");
+    for (uint64_t i = 0; i < open.count; i++) {
         printf("      %-8s  request number %" PRIu64 ", chunks held: %" PRIu64 "\n", name_of(peers[i]), request_ids[i],
                chunks_held[i]);
+        must(peers[i] == expected_peers[i], "the lists stand in their order");
+    }
 }
 
 /* Closes what has waited too long; how many lists that must be is expected. */
@@ -492,9 +496,9 @@ static void begin_others(uint8_t request_id, uint64_t day, struct received *scra
 {
     struct list keyboard = other_list(KEYBOARD, request_id), drums = other_list(DRUMS, request_id),
                 lights = other_list(LIGHTS, request_id);
-    expect_waiting(send_chunk('A', &keyboard, 1, day, scratch));
-    expect_waiting(send_chunk('B', &drums, 1, day, scratch));
     expect_waiting(send_chunk('A', &lights, 1, day, scratch));
+    expect_waiting(send_chunk('B', &drums, 1, day, scratch));
+    expect_waiting(send_chunk('A', &keyboard, 1, day, scratch));
 }
 
 /* A chunk of a longer list gets in between, twice: with this list's count, and without one. The list goes on. */
@@ -526,14 +530,16 @@ static void thursday(const struct list *list, struct received *received, struct 
     expect_refused(send_chunk('A', list, 3, day + 40, received), MIDICI_PE_INCONSISTENT_CHUNKING);
     printf("      Chunk 3 is there already. The list stays open and keeps what it holds.\n");
     send_strays(list, day + 50, received);
-    print_open_lists(4);
+    print_open_lists((const uint32_t[]){LIGHTS, DRUMS, KEYBOARD, MIXER}, 4);
+    printf("      In the table's memory the mixer comes first, since Wednesday. Here it stands last: the last\n");
+    printf("      chunk that reached a list was its stray one of 60 ms.\n");
     print_totals(4);
     poll_table(day + MIDICI_PE_TIMEOUT_MS - 1, 0);
     printf("      Just in time: nobody has been silent for so long.\n");
     cancel_and_drop(list->request_id);
     expect_waiting(send_chunk('A', list, 2, day + MIDICI_PE_TIMEOUT_MS, received));
     expect_whole(send_chunk('B', &lights, 2, day + 3010, scratch), &lights, scratch);
-    print_open_lists(1);
+    print_open_lists((const uint32_t[]){MIXER}, 1);
     expect_whole(send_chunk('B', list, 4, day + 3020, received), list, received);
     print_totals(0);
 }

@@ -97,6 +97,13 @@ void make_begun(struct table *table)
     check(table_feed(table, 1, second.at, second.len, 1000).refusal == 0, "chunk 2", "setting up");
 }
 
+void open_one(struct table *table, uint32_t peer, uint8_t request_id, uint64_t now_ms)
+{
+    struct bytes chunk = chunk_of((struct fields){request_id, "HD", 2, 1, "abc"});
+    midici_pe_fed answer = table_feed(table, peer, chunk.at, chunk.len, now_ms);
+    check(answer.refusal == 0 && answer.whole == 0, "a list is opened", "setting up");
+}
+
 void check_refused(const struct table *table, midici_pe_fed answer, uint8_t refusal, uint8_t value, const char *of)
 {
     check(answer.refusal == refusal && answer.value == value, "the refusal", of);

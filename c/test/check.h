@@ -43,6 +43,9 @@ struct bytes message_of(uint8_t sub_id2, uint32_t source, uint32_t dest, const s
 extern const struct fields FIRST;
 void make_begun(struct table *table);
 
+/* Opens a list: one of its two chunks, the first, is there. */
+void open_one(struct table *table, uint32_t peer, uint8_t request_id, uint64_t now_ms);
+
 /* Checks a refusal that leaves the table as it was kept. */
 void check_refused(const struct table *table, midici_pe_fed answer, uint8_t refusal, uint8_t value, const char *of);
 
@@ -51,6 +54,7 @@ void test_sending(void);
 void test_splitting(uint64_t seed);
 void test_feeding(void);
 void test_table_calls(void);
+void test_open_list(void);
 void test_table_runs(uint64_t seed);
 void test_unreadable(void);
 void test_lent_memory(void);

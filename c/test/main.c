@@ -12,6 +12,7 @@ int main(int argc, char **argv)
     test_splitting(seed);
     test_feeding();
     test_table_calls();
+    test_open_list();
     test_table_runs(seed);
     test_unreadable();
     test_lent_memory();

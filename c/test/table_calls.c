@@ -1,17 +1,10 @@
-/* Tests of the calls on a table: made, cancelled, dropped, polled, listed and counted; the largest table. */
+/* Tests of the calls on a table: made, cancelled, dropped, polled and counted; the largest table. */
 #include "check.h"
 #include "layout.h"
 
 #include <string.h>
 
 enum { PEERS = 2, HEADER_BYTES = 8, TX_BYTES = 32, RECORDS = 4, EXTRA = 3 };
-
-static void open_one(struct table *table, uint32_t peer, uint8_t request_id, uint64_t now_ms)
-{
-    struct bytes chunk = chunk_of((struct fields){request_id, "HD", 2, 1, "abc"});
-    midici_pe_fed answer = table_feed(table, peer, chunk.at, chunk.len, now_ms);
-    check(answer.refusal == 0 && answer.whole == 0, "a list is opened", "setting up");
-}
 
 /* Four lists: two of peer 1 and two of peer 2, opened in this order at the times 1000, 1001, 1002, 1003. */
 static void make_open(struct table *table)
@@ -166,38 +159,6 @@ static void test_poll_back(void)
     open_one(&table, 1, 12, 20000);
     check_poll(&table, 10000, 2, peers, ids);
     check(table_open_list(&table).count == 1, "the list whose time lies ahead stays", "poll");
-    table_free(&table);
-}
-
-static void test_open_list(void)
-{
-    enum { OPEN = 6 };
-    struct table table;
-    make_open(&table);
-    struct bytes chunk = chunk_of((struct fields){21, "", 3, 2, "x"});
-    check(table_feed(&table, 2, chunk.at, chunk.len, 0).refusal == 8, "another count", "open list");
-    chunk = chunk_of((struct fields){21, "", 0, 3, "x"});
-    check(table_feed(&table, 2, chunk.at, chunk.len, 0).refusal == 8, "a number above the count", "open list");
-    open_one(&table, 2, 23, 0);
-    chunk = chunk_of((struct fields){24, "", 0, 3, "x"});
-    check(table_feed(&table, 2, chunk.at, chunk.len, 0).refusal == 0, "a list without a count", "open list");
-    chunk = chunk_of((struct fields){24, "", 3, 2, "x"});
-    check(table_feed(&table, 2, chunk.at, chunk.len, 0).refusal == 0, "a second chunk", "open list");
-    table_keep(&table);
-    midici_pe_answer answer = table_open_list(&table);
-    check(answer.refusal == 0 && answer.value == 0 && answer.count == OPEN, "how many are open", "open list");
-    const uint64_t *peers = lent_words(&table.lent[OUT_PEERS]), *ids = lent_words(&table.lent[OUT_REQUEST_IDS]),
-                   *held = lent_words(&table.lent[OUT_CHUNKS_HELD]);
-    const uint64_t wanted[OPEN][3] = {{1, 11, 1}, {1, 12, 1}, {2, 21, 1}, {2, 22, 1}, {2, 23, 1}, {2, 24, 2}};
-    for (int w = 0; w < OPEN; w++) {
-        int found = 0;
-        for (int i = 0; i < OPEN; i++)
-            found += peers[i] == wanted[w][0] && ids[i] == wanted[w][1] && held[i] == wanted[w][2];
-        check(found == 1, "each open list stands there once", "open list");
-    }
-    for (int slice = 0; slice < LENT; slice++)
-        check(lent_same_from(&table.lent[slice], slice >= OUT_PEERS ? 8 * OPEN : 0), "all else stays", "open list");
-    check(table_guarded(&table), "nothing is written before a slice", "open list");
     table_free(&table);
 }
 
@@ -366,7 +327,6 @@ void test_table_calls(void)
     test_poll();
     test_poll_strays();
     test_poll_back();
-    test_open_list();
     test_totals();
     test_large_totals();
     test_reserved_bytes();

@@ -1,6 +1,6 @@
 /* Runs of random calls on tables. Each call is held against the model: its answer, and all that it leaves. Many of the
  * chunks go beyond their count, many counts come late, and some property bytes are above 7F: of those it is also asked
- * here, without the model, what they leave. */
+ * here, without the model, what they leave. Some tables begin with a clock that is soon held at its largest number. */
 #include "check.h"
 #include "layout.h"
 
@@ -29,8 +29,16 @@ static const char *const met_names[MET] = {"",
                                            "with a first count at the highest number that is held",
                                            "with a first count above the numbers that are held"};
 
+/* What puts a list ahead of one that lies before it in memory: its tick, with equal ticks its peer, and of one peer its
+ * request id. */
+enum put_by { BY_TICK, BY_PEER, BY_REQUEST_ID, PUT_BY };
+
+static const char *const put_by_names[PUT_BY] = {"by its tick", "by its peer, with equal ticks",
+                                                 "by its request id, with equal ticks of one peer"};
+
 struct seen {
     unsigned long chunks[MET], whole, whole_after_stray;
+    unsigned long open_lists[PUT_BY]; /* those with such a list */
 };
 
 struct run {
@@ -174,7 +182,8 @@ static void check_stray(const struct table *table, int slot, const uint64_t *bef
     const char *of = "a stray chunk in random runs";
     check(words[ACTIVE] == before[ACTIVE] && words[REQUEST_ID] == before[REQUEST_ID], "its list stays open", of);
     check(words[LAST_ACTIVITY_MS] == arrival->now_ms, "the time is set", of);
-    check(words[LRU_TICK] == lent_words(&table->lent[NUMBERS])[CLOCK] && words[LRU_TICK] > before[LRU_TICK],
+    check(words[LRU_TICK] == lent_words(&table->lent[NUMBERS])[CLOCK] &&
+              (words[LRU_TICK] > before[LRU_TICK] || words[LRU_TICK] == UINT64_MAX),
           "the tick is set", of);
     check(words[NUM_CHUNKS] == before[NUM_CHUNKS], "its count is not taken", of);
     check(words[INDEX_LEN] == before[INDEX_LEN] && words[PROPERTY_BYTES] == before[PROPERTY_BYTES], "nor its bytes", of);
@@ -222,6 +231,33 @@ static void count_whole(struct run *run, int slot, bool is_whole)
         run->strayed[i] = run->strayed[i] && words_at(&run->table, i)[ACTIVE] != 0;
 }
 
+/* ---- What an open list shows ---- */
+
+/* What puts the list at a place ahead of the one at a place before it, if anything; PUT_BY if nothing does. */
+static enum put_by put_ahead_by(const struct table *table, int place, int before)
+{
+    const uint64_t *a = words_at(table, place), *b = words_at(table, before), *numbers = lent_words(&table->lent[NUMBERS]);
+    const uint64_t by[PUT_BY][2] = {
+        {a[LRU_TICK], b[LRU_TICK]},
+        {numbers[peer_at((size_t)place / SLOTS) + MUID], numbers[peer_at((size_t)before / SLOTS) + MUID]},
+        {a[REQUEST_ID], b[REQUEST_ID]}};
+    for (int i = 0; i < PUT_BY; i++)
+        if (by[i][0] != by[i][1])
+            return by[i][0] < by[i][1] ? (enum put_by)i : PUT_BY;
+    return PUT_BY;
+}
+
+static void count_open_list(struct run *run)
+{
+    bool found[PUT_BY + 1] = {false};
+    for (int i = 0; i < (int)(SLOTS * run->table.shape.max_peers); i++)
+        for (int before = 0; before < i; before++)
+            if (words_at(&run->table, i)[ACTIVE] != 0 && words_at(&run->table, before)[ACTIVE] != 0)
+                found[put_ahead_by(&run->table, i, before)] = true;
+    for (int i = 0; i < PUT_BY; i++)
+        run->seen->open_lists[i] += found[i];
+}
+
 /* ---- Calls and runs ---- */
 
 static void make_call(struct run *run, const struct call *call)
@@ -242,7 +278,7 @@ static void make_call(struct run *run, const struct call *call)
     count_whole(run, slot, call->bytes != NO_BYTES && told.numbers[0] == 1);
     check(told_same(told, call->model(table, &given)), "the answer is the model's", call->name);
     if (call->lent >> OUT_CHUNKS_HELD & 1)
-        check(table_same_rows(table, told.numbers[0]), "each open list is listed", call->name);
+        count_open_list(run);
     check(table_same(table), "everything is left as the model leaves it", call->name);
     check(table_guarded(table), "nothing is written before a slice", call->name);
 }
@@ -269,6 +305,8 @@ static void make_run(uint64_t *seed, struct seen *seen)
         run.counts[i / LISTS][i % LISTS] = 1 + (unsigned)any(&run, 4);
     table_make(&run.table, shape, any(&run, 2));
     check(table_new(&run.table).refusal == 0, "a table is made", "random runs");
+    if (any(&run, 4) == 0)
+        lent_words(&run.table.lent[NUMBERS])[CLOCK] = UINT64_MAX - any(&run, 20);
     for (int i = 0; i < CALLS; i++)
         make_call(&run, choose_call(&run));
     table_free(&run.table);
@@ -287,4 +325,9 @@ void test_table_runs(uint64_t seed)
         check(seen.chunks[met] > 0, met_names[met], "random runs had no chunk");
     }
     check(seen.whole_after_stray > 0, "a list is whole after a stray chunk", "random runs");
+    printf("Open lists in which a list stands ahead of one that lies before it\n");
+    for (int by = 0; by < PUT_BY; by++) {
+        printf("  %s: %lu\n", put_by_names[by], seen.open_lists[by]);
+        check(seen.open_lists[by] > 0, put_by_names[by], "random runs had no list put ahead");
+    }
 }

@@ -2,10 +2,11 @@
 use crate::beyond::OF_SLOT;
 use crate::export::{export, Export};
 use crate::lent::Part;
+use crate::open::{self, OpenSlot};
 use crate::outcome::Refusal;
 use midici_core::muid::Muid;
 use midici_core::pe_msg::PeMessage;
-use midici_pe::reassembler::{probe, ReassembleEvent, Reassembler};
+use midici_pe::reassembler::{ReassembleEvent, Reassembler};
 
 /// What a call that is not refused tells.
 #[derive(Clone, Copy)]
@@ -116,7 +117,7 @@ calls! {
     ReservedBytes: row("midici_pe_reserved_bytes", &[30], &[], Tells::Granted),
         |r, _| [r.reserved_bytes() as u64, 0, 0];
     OpenList: row("midici_pe_open_list", &[30], &LISTED, Tells::Whether),
-        |r, written| open_list(r, written);
+        |r, written| listed(&open::of_original(r), written);
 }
 
 /// "Console number within 28 bits (also `Muid::from_u32`)? 28." The original's type holds no other number.
@@ -155,18 +156,14 @@ fn memory_stats(r: &Reassembler) -> [u64; 3] {
     [stats.reserved_bytes as u64, stats.active_bytes as u64, stats.active_slots as u64]
 }
 
-/// The original has no such call: what its private fields hold, by place, as the port lists it (document 01 leaves the order
-/// free).
-fn open_list(r: &Reassembler, written: &mut Written) -> [u64; 3] {
-    for p in 0..probe::max_peers(r) {
-        let slots = (0..probe::PEER_SLOTS).map(|s| probe::slot(r, p, s));
-        for slot in slots.filter(|slot| slot.is_active()) {
-            written.peers.push(probe::peer(r, p).1.into());
-            written.request_ids.push(slot.request_id().into());
-            written.held.push(slot.records() as u64);
-        }
+/// The original has no such call: the rows are read from its private fields.
+pub fn listed(rows: &[OpenSlot], written: &mut Written) -> [u64; 3] {
+    for row in rows {
+        written.peers.push(row.peer);
+        written.request_ids.push(row.request_id);
+        written.held.push(row.held);
     }
-    [written.peers.len() as u64, 0, 0]
+    [rows.len() as u64, 0, 0]
 }
 
 /// How a field is shown.

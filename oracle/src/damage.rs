@@ -1,10 +1,10 @@
-//! A slot of the port's table that somebody else wrote into.
+//! A table of the port that somebody else wrote into.
 use crate::layout::{record, ACTIVE, BODY_LEN, FRAGMENT_RECORDS, HEADER_BYTES, HEADER_LEN, RECORDS, TX_BYTES};
 
-/// One of a slot's words, or of its records.
+/// One of its numbers, or of its records.
 #[derive(Clone, Copy, Debug)]
 pub enum Place {
-    Word(usize),
+    Number(usize),
     Record(usize),
 }
 

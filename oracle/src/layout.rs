@@ -25,9 +25,9 @@ const PEER_WORDS: usize = SLOTS_AT + PEER_SLOTS * SLOT_WORDS;
 
 /// The words of a slot.
 pub const ACTIVE: usize = 0;
-const REQUEST_ID: usize = 1;
+pub const REQUEST_ID: usize = 1;
 const LAST_ACTIVITY_MS: usize = 2;
-const LRU_TICK: usize = 3;
+pub const LRU_TICK: usize = 3;
 const NUM_CHUNKS: usize = 4;
 const HEADER_SET: usize = 5;
 pub const HEADER_LEN: usize = 6;

@@ -12,6 +12,7 @@ mod inputs;
 pub mod layout;
 pub mod lent;
 pub mod op;
+pub mod open;
 pub mod original;
 pub mod outcome;
 pub mod random;

@@ -14,7 +14,7 @@ pub struct Start {
     pub clock: Option<u64>,
 }
 
-/// A call, and how the slot that it reaches is damaged before, where it is.
+/// A call, and how the table is damaged before, where it is: the slot that it reaches, or what an open list reads.
 #[derive(Clone)]
 pub struct Call {
     pub lent: Lent,
@@ -34,6 +34,13 @@ pub struct Told {
 impl From<Refusal> for Told {
     fn from(Refusal { number, value }: Refusal) -> Told {
         Told { refusal: number, value, numbers: [0; 3] }
+    }
+}
+
+impl Call {
+    /// Is it an open list that is not refused?
+    pub fn lists(&self) -> bool {
+        matches!(self.what, What::OpenList) && self.lent == Lent::Right
     }
 }
 

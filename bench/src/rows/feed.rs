@@ -9,12 +9,12 @@ use std::hint::black_box;
 
 pub fn each(visit: &mut impl FnMut(Row)) {
     for list in List::all() {
-        for order in Order::ALL {
+        for order in Order::OF_CHUNKS {
             let name = format!("{}, {}", list.name(), order.name());
             visit(row(name, order.of(list.chunks())).beside_copies(&list.body));
         }
     }
-    for order in Order::ALL {
+    for order in Order::OF_CHUNKS {
         visit(row(format!("{FRAGMENT_RECORDS} chunks of one byte, {}", order.name()), order.of(one_byte_chunks(REQUEST_ID))));
     }
     let list = List::new(65_536, 256);

@@ -6,11 +6,8 @@ use mathlib.Core.List.{List}
 use mathlib.Core.Path.{_≡_, refl, sym, ap, _∙_}
 use mir.Val.{boolByte}
 use Rattle.seven_bit.specs.Reply.{Reply, Outcome, outcome}
-use Rattle.pe_reassembler.specs.Open.{OpenList, listed}
-use Rattle.pe_reassembler.specs.declared.shape.Shape.{Shape}
 use Rattle.hub.specs.declared.answer.Answer.{Answer}
 use Rattle.hub.specs.Answers.{answerOf, Left, left, written, writtenOf}
-use Rattle.hub.specs.Table.{OpenListed}
 
 -- an arm of a match: what is right for its pattern is right for the value
 pub matched : {A B : Type 0} (f : A → B) {a pattern : A} {r : B} → a ≡ pattern → r ≡ f pattern → r ≡ f a
@@ -27,7 +24,3 @@ leaves {A} a b m p q = ap (λ (x : A). left x m) p ∙ q
 
 pub writes : (a : Answer) (reply : Reply ℕ) (out : List ℕ) (o : Outcome) → a ≡ answerOf reply → outcome reply out ≡ o → written a out ≡ writtenOf o
 writes a reply out o p q = leaves _ _ _ p (ap writtenOf q)
-
-pub lists : (a : Answer) (reply : Reply ℕ) (out-peers out-ids out-held : List ℕ) {shape : Shape} {numbers peers ids held : List ℕ} → a ≡ answerOf reply → OpenList shape numbers peers ids held (listed reply out-peers out-ids out-held) → OpenListed shape numbers peers ids held (left a (out-peers, out-ids, out-held))
-lists a reply out-peers out-ids out-held p o =
-    record { told = listed reply out-peers out-ids out-held; open-list = o; in-numbers = leaves _ _ _ p refl }

@@ -3,12 +3,10 @@
 use Prim.Native.Nat.{ℕ}
 use mathlib.Core.Bool.{Bool}
 use mathlib.Core.List.{List}
-use mathlib.Core.Path.{_≡_}
 use Rattle.pe_reassembler.specs.Calls.{Fresh, Numbered}
 use Rattle.pe_reassembler.specs.Feed.{Memory, FeedLeft}
-use Rattle.pe_reassembler.specs.Open.{Listed, OpenList}
+use Rattle.pe_reassembler.specs.Open.{Listed}
 use Rattle.pe_reassembler.specs.Poll.{Polled}
-use Rattle.pe_reassembler.specs.declared.shape.Shape.{Shape}
 use Rattle.hub.specs.declared.answer.Answer.{Answer}
 use Rattle.hub.specs.declared.answer.FedAnswer.{FedAnswer}
 use Rattle.hub.specs.Answers.{answerOf, fedAnswerOf, asCount, Left, left}
@@ -30,9 +28,3 @@ polledOf p = left (answerOf (p .answer)) (p .numbers, p .out-peers, p .out-ids)
 
 abbrev pub listedOf : Listed → Left Answer (List ℕ × List ℕ × List ℕ)
 listedOf l = left (answerOf (l .answer)) (l .out-peers, l .out-ids, l .out-held)
-
--- An open list as the call tells it (the order of its rows is free), with its answer in numbers.
-pub record OpenListed (shape : Shape) (numbers out-peers out-ids out-held : List ℕ) (l : Left Answer (List ℕ × List ℕ × List ℕ)) : Type 0 where
-  pub told : Listed
-  pub open-list : OpenList shape numbers out-peers out-ids out-held told
-  pub in-numbers : l ≡ listedOf told

@@ -15,9 +15,10 @@ use pe_reassembler::shape::Shape;
 ghost use mathlib.Core.Path.{_≡_};
 ghost use Rattle.pe_reassembler.specs.Calls.{newCall, cancelCall, dropCall, statsCall, reservedCall};
 ghost use Rattle.pe_reassembler.specs.Feed.{memory, feedCall};
+ghost use Rattle.pe_reassembler.specs.Open.{openCall};
 ghost use Rattle.pe_reassembler.specs.Poll.{pollCall};
 ghost use Rattle.hub.specs.Answers.{answerOf, statsAnswerOf, left};
-ghost use Rattle.hub.specs.Table.{madeOf, cancelledOf, droppedOf, fedOf, polledOf, OpenListed};
+ghost use Rattle.hub.specs.Table.{madeOf, cancelledOf, droppedOf, fedOf, polledOf, listedOf};
 
 // Makes a table in the lent memory; the rooms keep their bytes.
 #[no_mangle]
@@ -103,7 +104,7 @@ pub extern "C" fn midici_pe_poll(
     number_counted(poll::poll(shape, numbers, now_ms, out_peers, out_request_ids))
 }
 
-// Lists peer, request id and chunks held of each open slot, in any order: how many there are.
+// Lists peer, request id and chunks held of each open slot, by tick, peer, request id and place: how many there are.
 #[no_mangle]
 pub extern "C" fn midici_pe_open_list(
     shape: Shape,
@@ -112,8 +113,8 @@ pub extern "C" fn midici_pe_open_list(
     out_request_ids: &mut [u64],
     out_chunks_held: &mut [u64],
 ) -> Answer
-    ensures { λ r. ⌜ OpenListed shape (now (numbers .entry)) (now («out_peers» .entry)) (now («out_request_ids» .entry)) (now («out_chunks_held» .entry))
-        (left r (now («out_peers» .exit), now («out_request_ids» .exit), now («out_chunks_held» .exit))) ⌝ }
+    ensures { λ r. ⌜ left r (now («out_peers» .exit), now («out_request_ids» .exit), now («out_chunks_held» .exit))
+        ≡ listedOf (openCall shape (now (numbers .entry)) (now («out_peers» .entry)) (now («out_request_ids» .entry)) (now («out_chunks_held» .entry))) ⌝ }
 {
     number_counted(open::open_list(shape, numbers, out_peers, out_request_ids, out_chunks_held))
 }

@@ -3,6 +3,8 @@ pub mod TableClose
 pub mod CallsLaws
 pub mod CallsSums
 pub mod CallsFresh
+pub mod OrderLaws
+pub mod AheadLaws
 pub mod PollLaws
 pub mod FeedLaws
 pub mod OpenLaws

@@ -1,8 +1,10 @@
 pub mod Table
 pub mod Feed
 pub mod Calls
+pub mod Order
 pub mod Poll
 pub mod Listing
 pub mod Steps
 pub mod Open
+pub mod Places
 pub mod Sound

@@ -1,14 +1,15 @@
 -- `poll` (document 01, module 8): "A poll closes each transfer with now − last time at least 3,000 (0 if the clock went back), by tick, then by place."
 -- Assumes nothing.
 use Prim.Native.Nat.{ℕ, zero, suc, _+_, _-_, _*_}
-use mathlib.Core.Bool.{Bool, true, false, cond, _&&_}
-use mathlib.Core.List.{List, [], _∷_, _++_, map}
+use mathlib.Core.Bool.{Bool, cond, _&&_}
+use mathlib.Core.List.{List, [], _++_, map}
 use lib.Dec.{leb}
 use lib.ListN.{length, getD, drop}
 use Rattle.seven_bit.specs.Reply.{Reply, granted, refused}
 use Rattle.pe_slot.specs.Layout.{requestIdAt, lastActivityAt, lruTickAt}
 use Rattle.pe_reassembler.specs.declared.shape.Shape.{Shape}
 use Rattle.pe_reassembler.specs.Calls.{closeAt}
+use Rattle.pe_reassembler.specs.Order.{inOrder}
 use Rattle.pe_reassembler.specs.Table.{hasNumbers, isActive, peerAt, slotAt, rowsFrom}
 
 -- An open slot whose time is up.
@@ -28,14 +29,9 @@ timeoutOf numbers p s =
 abbrev pub dueFrom : List ℕ → ℕ → ℕ → ℕ → ℕ → List Timeout
 dueFrom numbers now-ms p s k = rowsFrom (isDue numbers now-ms) (timeoutOf numbers) p s k
 
--- By tick, and those of one tick as they stand.
-unfoldable pub byTick : Timeout → List Timeout → List Timeout
-byTick t [] = t ∷ []
-byTick t (u ∷ us) = cond (leb (u .tick) (t .tick)) (u ∷ byTick t us) (t ∷ u ∷ us)
-
-unfoldable pub sorted : List Timeout → List Timeout → List Timeout
-sorted done [] = done
-sorted done (t ∷ ts) = sorted (byTick t done) ts
+-- "by tick, then by place": those of one tick as they stand.
+abbrev pub byTick : Timeout → Timeout → Bool
+byTick t u = leb (t .tick) (u .tick)
 
 -- All that are due, closed.
 unfoldable pub closeDue : ℕ → ℕ → ℕ → ℕ → List ℕ → List ℕ
@@ -57,7 +53,7 @@ polled answer numbers out-peers out-ids = record { answer = answer; numbers = nu
 unfoldable pub pollCall : Shape → List ℕ → ℕ → List ℕ → List ℕ → Polled
 pollCall shape numbers now-ms out-peers out-ids =
     cond (hasNumbers shape numbers && leb (4 * shape .«max_peers») (length out-peers) && leb (4 * shape .«max_peers») (length out-ids))
-    (let due = sorted [] (dueFrom numbers now-ms 0 0 (4 * shape .«max_peers»)) in
+    (let due = inOrder byTick [] (dueFrom numbers now-ms 0 0 (4 * shape .«max_peers»)) in
     polled (granted (length due))
     (closeDue now-ms 0 0 (4 * shape .«max_peers») numbers)
     (map (λ (t : Timeout). t .peer) due ++ drop (length due) out-peers)

@@ -3,5 +3,6 @@ pub mod calls;
 pub mod feed;
 pub mod open;
 pub mod poll;
+mod rows;
 pub mod shape;
 mod table;

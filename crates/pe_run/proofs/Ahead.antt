@@ -14,8 +14,9 @@ use Rattle.pe_frame.specs.Chunk.{Chunk, Fields, readFields, chunkOf, readChunk}
 use Rattle.pe_frame.proofs.RoundTrip.{read-in-range}
 use Rattle.pe_reassembler.specs.Table.{inRange, numbersLen, hasNumbers, hasRooms, isMuid}
 use Rattle.pe_reassembler.specs.Feed.{FeedLeft, feedLeft, atTable, chunkRead, hasAll, feedCall, messageRead, messageCall}
-use Rattle.pe_reassembler.specs.Poll.{Timeout, dueFrom, sorted, closeDue, polled, pollCall}
-use Rattle.pe_reassembler.specs.Open.{Shown, listed, openCall}
+use Rattle.pe_reassembler.specs.Order.{inOrder}
+use Rattle.pe_reassembler.specs.Poll.{Timeout, dueFrom, byTick, closeDue, polled, pollCall}
+use Rattle.pe_reassembler.specs.Open.{openRows, listed, listedRows, openCall}
 use Rattle.pe_reassembler.specs.declared.shape.Shape.{Shape}
 use Rattle.pe_run.specs.Demand.{fullSize, LongEnough}
 use Rattle.pe_run.specs.Calls.{Arrival, arrival, arriving, hasOutputs, fedArrival, messageArrival, hasPlaces}
@@ -78,7 +79,7 @@ module _ (shape : Shape) (t : Table) (ok : LongFor shape t) where
   pub poll-ahead : (now-ms : ℕ) (out-peers out-ids : List ℕ)
       → pollCall shape (t .numbers) now-ms out-peers out-ids
       ≡ cond (hasPlaces (shape .«max_peers») out-peers && hasPlaces (shape .«max_peers») out-ids)
-      (let due : List Timeout = sorted [] (dueFrom (t .numbers) now-ms 0 0 (4 * shape .«max_peers»)) in
+      (let due : List Timeout = inOrder byTick [] (dueFrom (t .numbers) now-ms 0 0 (4 * shape .«max_peers»)) in
       polled (granted (length due)) (closeDue now-ms 0 0 (4 * shape .«max_peers») (t .numbers))
       (map (λ (r : Timeout). r .peer) due ++ drop (length due) out-peers)
       (map (λ (r : Timeout). r .request-id) due ++ drop (length due) out-ids))
@@ -86,16 +87,13 @@ module _ (shape : Shape) (t : Table) (ok : LongFor shape t) where
   unfolding pollCall
   poll-ahead now-ms out-peers out-ids = rw numbers-asked
 
-  pub list-ahead : (rows : List Shown) (out-peers out-ids out-held : List ℕ)
-      → openCall shape (t .numbers) rows out-peers out-ids out-held
+  pub list-ahead : (out-peers out-ids out-held : List ℕ)
+      → openCall shape (t .numbers) out-peers out-ids out-held
       ≡ cond (hasPlaces (shape .«max_peers») out-peers && hasPlaces (shape .«max_peers») out-ids && hasPlaces (shape .«max_peers») out-held)
-      (listed (granted (length rows))
-      (map (λ (r : Shown). r .peer) rows ++ drop (length rows) out-peers)
-      (map (λ (r : Shown). r .request-id) rows ++ drop (length rows) out-ids)
-      (map (λ (r : Shown). r .held) rows ++ drop (length rows) out-held))
+      (listedRows (openRows shape (t .numbers)) out-peers out-ids out-held)
       (listed (refused 30 0) out-peers out-ids out-held)
   unfolding openCall
-  list-ahead rows out-peers out-ids out-held = rw numbers-asked
+  list-ahead out-peers out-ids out-held = rw numbers-asked
 
 -- ---- what arrives: its numbers are small, and both outputs are long enough
 pub record Small (shape : Shape) (out-header out-body : List ℕ) (a : Arrival) : Type 0 where

@@ -1,12 +1,10 @@
--- Every list of calls has answers: what the contracts allow is never nothing. The open list's rows may come by place.
+-- Every list of calls has answers.
 -- Assumes nothing.
 use mathlib.Core.List.{List, [], _∷_}
 use mathlib.Core.Path.{refl}
 use Rattle.pe_reassembler.specs.declared.shape.Shape.{Shape}
-use Rattle.pe_reassembler.specs.Open.{openSlots, openCall}
 use Rattle.pe_run.specs.Calls.{Call, feed, feed-message, cancel, drop-peer, poll, memory-stats, reserved-bytes, open-list, Answer}
 use Rattle.pe_run.specs.Run.{Table, step, Answers, Run}
-use Rattle.pe_run.proofs.PermLaws.{perm-refl}
 
 pub answer : (shape : Shape) (t : Table) (c : Call) → (a : Answer) × Answers shape t c a
 answer shape t (feed peer chunk now-ms out-header out-body) = (_, refl)
@@ -16,14 +14,7 @@ answer shape t (drop-peer peer) = (_, refl)
 answer shape t (poll now-ms out-peers out-ids) = (_, refl)
 answer shape t memory-stats = (_, refl)
 answer shape t reserved-bytes = (_, refl)
-answer shape t (open-list out-peers out-ids out-held) = (
-  _,
-  record {
-    left = openCall shape (t .numbers) (openSlots shape (t .numbers)) out-peers out-ids out-held;
-    contract = record { rows = openSlots shape (t .numbers); each-once = perm-refl (openSlots shape (t .numbers)); told = refl };
-    told = refl;
-  },
-)
+answer shape t (open-list out-peers out-ids out-held) = (_, refl)
 
 pub answered : (shape : Shape) (t : Table) (calls : List Call) → (told : List Answer) × Run shape t calls told
 answered shape t [] = ([], tt)

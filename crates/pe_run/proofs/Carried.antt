@@ -14,7 +14,7 @@ use Rattle.midici_core.specs.Message.{readMessage}
 use Rattle.pe_frame.specs.Chunk.{Chunk, readFields, readChunk}
 use Rattle.pe_reassembler.specs.declared.shape.Shape.{Shape}
 use Rattle.pe_reassembler.specs.Table.{isMuid}
-use Rattle.pe_run.specs.Model.{Model, Act, arrive, cancel as cancelled, drop as dropped, poll as polled, nothing}
+use Rattle.pe_run.specs.Model.{Clocked, Act, arrive, cancel as cancelled, drop as dropped, poll as polled, nothing}
 use Rattle.pe_run.specs.Calls.{fedArrival, messageArrival, Call, feed, feed-message, cancel, drop-peer, poll, memory-stats, reserved-bytes, open-list, Answer, Arrival, arriving, hasOutputs, grantedOf, arrivalOf, arrivalAct, hasPlaces, actOf, arrivalAnswer, Right}
 use Rattle.pe_run.specs.Demand.{isUnder, isOurs, oursOf, ours, answersTo, Spared}
 use Rattle.pe_run.proofs.ListLaws.{never}
@@ -86,7 +86,7 @@ module _ (shape : Shape) where
   act-arrives reserved-bytes a q = no-arrival a q
   act-arrives (open-list out-peers out-ids out-held) a q = no-arrival a q
 
-  pub answer-arrives : (b : Model) (c : Call) (a : Arrival) (told : Answer) → arrivalOf shape c ≡ some a → Right shape b c told
+  pub answer-arrives : (b : Clocked) (c : Call) (a : Arrival) (told : Answer) → arrivalOf shape c ≡ some a → Right shape b c told
       → told ≡ arrivalAnswer shape b (granted a) (a .out-header) (a .out-body)
   answer-arrives b (feed peer chunk now-ms out-header out-body) a told q r =
       let e = granted-of (fedArrival shape peer chunk now-ms out-header out-body) a q in

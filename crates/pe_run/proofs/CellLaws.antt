@@ -10,7 +10,7 @@ use borrow.Author.Tests.{eqb-true}
 use lib.Dec.{eqb}
 use lib.ListN.{length, getD, take, drop}
 use lib.Seq.{length-take-le, getD-take, getD-drop}
-use Rattle.pe_slot.specs.Layout.{slotWords, activeAt, requestIdAt, lastActivityAt, headerSetAt, headerLenAt, indexLenAt, propertyBytesAt}
+use Rattle.pe_slot.specs.Layout.{slotWords, activeAt, requestIdAt, lastActivityAt, lruTickAt, headerSetAt, headerLenAt, indexLenAt, propertyBytesAt}
 use Rattle.pe_slot.specs.Slot.{Slot, bodyLen}
 use Rattle.pe_slot.specs.Memory.{slotOf, contents, isSound}
 use Rattle.pe_slot.proofs.FeedTheorems.{sound-told}
@@ -21,7 +21,7 @@ use Rattle.pe_reassembler.specs.Table.{peerAt, slotAt, isActive}
 use Rattle.pe_reassembler.specs.Feed.{wordsPart, roomPart}
 use Rattle.pe_reassembler.proofs.SlotLengths.{records-length, header-length, arena-length}
 use Rattle.pe_reassembler.proofs.SoundLaws.{SlotSound}
-use Rattle.pe_run.specs.Model.{Entry, Model, entryOf}
+use Rattle.pe_run.specs.Model.{Open, Entry, Model, entryOf}
 use Rattle.pe_run.specs.Calls.{headerLen, entryBytes}
 use Rattle.pe_run.specs.Run.{Table, lent, LongFor}
 use Rattle.pe_run.proofs.Value.{cellOf, cellAt, cellOpen}
@@ -40,27 +40,27 @@ entryAt shape t p s =
       request-id = getD (t .numbers) (slotAt p s + requestIdAt) 0;
       state = record {
         time = getD (t .numbers) (slotAt p s + lastActivityAt) 0;
+        tick = getD (t .numbers) (slotAt p s + lruTickAt) 0;
         slot =
             contents (slotOf (wordsPart (t .numbers) p s)) (roomPart (shape .«fragment_records») (t .index) p s)
             (roomPart (shape .«header_bytes») (t .headers) p s) (roomPart (shape .«tx_bytes») (t .arenas) p s);
       };
     }
 
-abbrev entryFor : ℕ → ℕ → ℕ → ℕ → Slot → Model
-entryFor peer active request-id time slot =
-    cond (not (eqb active 0)) (record { peer = peer; request-id = request-id; state = record { time = time; slot = slot } } ∷ []) []
+abbrev entryFor : ℕ → ℕ → ℕ → Open → Model
+entryFor peer active request-id o = cond (not (eqb active 0)) (record { peer = peer; request-id = request-id; state = o } ∷ []) []
 
 open-cell : (peer : ℕ) (words index header arena : List ℕ)
     → cellOpen peer (cellOf words index header arena)
-    ≡ entryFor peer (getD words activeAt 0) (getD words requestIdAt 0) (getD words lastActivityAt 0) (contents (slotOf words) index header arena)
+    ≡ entryFor peer (getD words activeAt 0) (getD words requestIdAt 0)
+    (record { time = getD words lastActivityAt 0; tick = getD words lruTickAt 0; slot = contents (slotOf words) index header arena })
 unfolding cellOf
-open-cell peer words index header arena = go (eqb (getD words activeAt 0) 0) (getD words requestIdAt 0) (getD words lastActivityAt 0) (contents (slotOf words) index header arena)
+open-cell peer words index header arena = go (eqb (getD words activeAt 0) 0) (getD words requestIdAt 0) _
   where
-    go : (b : Bool) (request-id time : ℕ) (slot : Slot)
-        → entryOf peer request-id (cond b none (some (record { time = time; slot = slot })))
-        ≡ cond (not b) (record { peer = peer; request-id = request-id; state = record { time = time; slot = slot } } ∷ []) []
-    go true request-id time slot = refl
-    go false request-id time slot = refl
+    go : (b : Bool) (request-id : ℕ) (o : Open)
+        → entryOf peer request-id (cond b none (some o)) ≡ cond (not b) (record { peer = peer; request-id = request-id; state = o } ∷ []) []
+    go true request-id o = refl
+    go false request-id o = refl
 
 pub cell-open : (shape : Shape) (t : Table) (p s : ℕ)
     → cellOpen (peerIn t p) (cellAt shape t p s) ≡ cond (isActive (t .numbers) p s) (entryAt shape t p s ∷ []) []
@@ -72,10 +72,12 @@ cell-open shape t p s =
     let a : getD w activeAt 0 ≡ getD (t .numbers) (slotAt p s) 0 = word-at (t .numbers) p s 0 (omega arith) ∙ ap (λ (i : ℕ). getD (t .numbers) i 0) z in
     open-cell (peerIn t p) w (roomPart (shape .«fragment_records») (t .index) p s) (roomPart (shape .«header_bytes») (t .headers) p s)
     (roomPart (shape .«tx_bytes») (t .arenas) p s)
-    ∙ ap (λ (i : ℕ). entryFor (peerIn t p) i (getD w requestIdAt 0) (getD w lastActivityAt 0) x) a
-    ∙ ap (λ (i : ℕ). entryFor (peerIn t p) (getD (t .numbers) (slotAt p s) 0) i (getD w lastActivityAt 0) x) (word-at (t .numbers) p s requestIdAt (omega arith))
-    ∙ ap (λ (i : ℕ). entryFor (peerIn t p) (getD (t .numbers) (slotAt p s) 0) (getD (t .numbers) (slotAt p s + requestIdAt) 0) i x)
-    (word-at (t .numbers) p s lastActivityAt (omega arith))
+    ∙ rw (
+      a,
+      word-at (t .numbers) p s requestIdAt (omega arith),
+      word-at (t .numbers) p s lastActivityAt (omega arith),
+      word-at (t .numbers) p s lruTickAt (omega arith),
+    )
 
 -- ---- what a sound slot's words say of it
 held-length : (H B R : ℕ) (words index header arena : List ℕ) → length index ≡ R → isSound H B R (slotOf words) index ≡ true

@@ -22,8 +22,7 @@ use Rattle.pe_chunker.proofs.CutLaws.{later-between}
 use Rattle.pe_chunker.proofs.PieceLaws.{pieces-count}
 use Rattle.pe_chunker.proofs.ChunkLaws.{count-told}
 use Rattle.pe_chunker.proofs.Theorems.{pieces-are-the-body, header-receivable, chunk-reads-back}
-use Rattle.pe_reassembler.specs.Open.{Perm}
-use Rattle.pe_run.specs.Lists.{memb}
+use Rattle.pe_run.specs.Lists.{memb, Perm}
 use Rattle.pe_run.specs.Demand.{CutInto}
 use Rattle.pe_run.proofs.ListLaws.{All, Distinct}
 use Rattle.pe_run.proofs.PermLaws.{perm-map, perm-all, perm-length, perm-memb, perm-distinct}

@@ -8,9 +8,8 @@ use mathlib.Core.Option.{Option, none, some}
 use mathlib.Core.Path.{_≡_, refl, sym, ap, ap₂, _∙_, subst}
 use lib.Dec.{leb}
 use lib.ListN.{length-map}
-use Rattle.pe_reassembler.specs.Open.{Perm}
-use Rattle.pe_run.specs.Lists.{keep, tally}
-use Rattle.pe_run.specs.Model.{Open, Entry, Model, isOf, isLate, find, isNone, openOf, entryOf, without}
+use Rattle.pe_run.specs.Lists.{keep, tally, Perm}
+use Rattle.pe_run.specs.Model.{Open, Entry, Model, Clocked, clocked, isOf, isLate, find, isNone, openOf, entryOf, without}
 use Rattle.pe_run.proofs.ListLaws.{All, NoneOf, keep-append}
 use Rattle.pe_run.proofs.PermLaws.{perm-keep}
 use Rattle.pe_run.proofs.ModelLaws.{without-none, unique-keep}
@@ -30,7 +29,7 @@ module _ (now-ms : ℕ) where
       ap₂ (λ (a b : Model). a ++ b) (one (cell .state)) (poll-cells muid cells) ∙ sym (keep-append inTime (cellOpen muid cell) (cellsOpen muid cells))
     where
       with : Option Open → Cell
-      with o = record { tick = cell .tick; request-id = cell .request-id; state = o }
+      with o = record { request-id = cell .request-id; state = o }
 
       one : (o : Option Open) → cellOpen muid (pollCell now-ms (with o)) ≡ keep inTime (entryOf muid (cell .request-id) o)
       one none = refl
@@ -51,7 +50,7 @@ module _ (now-ms : ℕ) where
   poll-idle (cell ∷ cells) h = go (cell .state) h (poll-idle cells)
     where
       go : (o : Option Open) → (isNone o && every isFree cells) ≡ true → (every isFree cells ≡ true → every isFree (map (pollCell now-ms) cells) ≡ true)
-          → (isFree (pollCell now-ms (record { tick = cell .tick; request-id = cell .request-id; state = o })) && every isFree (map (pollCell now-ms) cells))
+          → (isFree (pollCell now-ms (record { request-id = cell .request-id; state = o })) && every isFree (map (pollCell now-ms) cells))
           ≡ true
       go none e r = r e
       go (some x) e r = absurd (false≢true e)
@@ -68,14 +67,16 @@ module _ (now-ms : ℕ) where
   poll-fours [] a = tt
   poll-fours (r ∷ recs) a = (length-map (r .cells) (pollCell now-ms) ∙ a .0, poll-fours recs (a .1))
 
-pub poll-rel : {n : ℕ} {v : Value} {b : Model} → Rel n v b → (now-ms : ℕ) → Rel n (polled v now-ms) (keep (λ (e : Entry). not (isLate now-ms e)) b)
+pub poll-rel : {n : ℕ} {v : Value} {b : Clocked} → Rel n v b → (now-ms : ℕ)
+    → Rel n (polled v now-ms) (clocked (b .clock) (keep (λ (e : Entry). not (isLate now-ms e)) (b .model)))
 unfolding polled
 poll-rel {n} {v} {b} rel now-ms = record {
   size = length-map (v .recs) (pollRec now-ms) ∙ rel .size;
   fours = poll-fours now-ms (v .recs) (rel .fours);
   tidy = poll-tidy now-ms (v .recs) (rel .tidy);
+  clock-is = rel .clock-is;
   same = rw (poll-recs now-ms (v .recs)) (perm-keep (inTime now-ms) (rel .same));
-  unique = unique-keep (inTime now-ms) b (rel .unique);
+  unique = unique-keep (inTime now-ms) (b .model) (rel .unique);
 }
 
 -- ---- a drop
@@ -83,14 +84,15 @@ pub shut-idle : (cells : List Cell) → every isFree (map shutOpen cells) ≡ tr
 shut-idle [] = refl
 shut-idle (cell ∷ cells) = ap₂ (λ (a b : Bool). a && b) (one (cell .state)) (shut-idle cells)
   where
-    one : (o : Option Open) → isFree (shutOpen (record { tick = cell .tick; request-id = cell .request-id; state = o })) ≡ true
+    one : (o : Option Open) → isFree (shutOpen (record { request-id = cell .request-id; state = o })) ≡ true
     one none = refl
     one (some x) = refl
 
 shut-open : (muid : ℕ) (cells : List Cell) → cellsOpen muid (map shutOpen cells) ≡ []
 shut-open muid cells = free-open muid (map shutOpen cells) (shut-idle cells)
 
-pub drop-rel : {n : ℕ} {v : Value} {b : Model} → Rel n v b → (peer : ℕ) → Rel n (dropped v peer) (keep (λ (e : Entry). not (isOf peer e)) b)
+pub drop-rel : {n : ℕ} {v : Value} {b : Clocked} → Rel n v b → (peer : ℕ)
+    → Rel n (dropped v peer) (clocked (b .clock) (keep (λ (e : Entry). not (isOf peer e)) (b .model)))
 unfolding dropped
 drop-rel {n} {v} {b} rel peer = go (view (isOwn peer) (v .recs))
   where
@@ -98,21 +100,23 @@ drop-rel {n} {v} {b} rel peer = go (view (isOwn peer) (v .recs))
     others e = not (isOf peer e)
 
     go : Apart peer (v .recs) ⊎ Split (isOwn peer) (v .recs)
-        → Rel n (withRecs v (onFirst (isOwn peer) dropRec (v .recs))) (keep (λ (e : Entry). not (isOf peer e)) b)
+        → Rel n (withRecs v (onFirst (isOwn peer) dropRec (v .recs))) (clocked (b .clock) (keep (λ (e : Entry). not (isOf peer e)) (b .model)))
     go (inl a) = rw (onFirst-absent (isOwn peer) dropRec (v .recs) a) (record {
       size = rel .size;
       fours = rel .fours;
       tidy = rel .tidy;
-      same = subst (λ (l : Model). Perm l (keep others b)) (away-drop peer (opens v) (apart-away peer (v .recs) (rel .tidy) a)) (perm-keep others (rel .same));
-      unique = unique-keep (λ (e : Entry). not (isOf peer e)) b (rel .unique);
+      clock-is = rel .clock-is;
+      same = subst (λ (l : Model). Perm l (keep others (b .model))) (away-drop peer (opens v) (apart-away peer (v .recs) (rel .tidy) a)) (perm-keep others (rel .same));
+      unique = unique-keep (λ (e : Entry). not (isOf peer e)) (b .model) (rel .unique);
     })
     go (inr s) = rw (split-onFirst s dropRec) (record {
       size = split-length s (dropRec (s .hit)) ∙ rel .size;
       fours = split-all s FourCells (dropRec (s .hit)) (rel .fours) (length-map (s .hit .cells) shutOpen ∙ split-hit s FourCells (rel .fours));
       tidy =
           tidy-unbind (s .hit .muid) (s .before) (s .hit) (s .after) (map shutOpen (s .hit .cells)) (own-split peer (rel .tidy) s) (shut-idle (s .hit .cells));
-      same = subst (λ (l : Model). Perm l (keep others b)) left (perm-keep others (rel .same));
-      unique = unique-keep (λ (e : Entry). not (isOf peer e)) b (rel .unique);
+      clock-is = rel .clock-is;
+      same = subst (λ (l : Model). Perm l (keep others (b .model))) left (perm-keep others (rel .same));
+      unique = unique-keep (λ (e : Entry). not (isOf peer e)) (b .model) (rel .unique);
     })
       where
         left : keep others (opens v) ≡ recsOpen (s .before ++ dropRec (s .hit) ∷ s .after)
@@ -122,17 +126,20 @@ drop-rel {n} {v} {b} rel peer = go (view (isOwn peer) (v .recs))
             ∙ ap (λ (l : Model). recsOpen (s .before) ++ (l ++ recsOpen (s .after))) (shut-open (s .hit .muid) (s .hit .cells)))
 
 -- ---- a cancel
-cancel-absent : {n : ℕ} {v : Value} {b : Model} → Rel n v b → (peer id : ℕ) → find peer id (opens v) ≡ none → Rel n v (without peer id b)
-cancel-absent {b = b} rel peer id h = rw (without-none peer id b (find-is rel peer id ∙ h)) rel
+cancel-absent : {n : ℕ} {v : Value} {b : Clocked} → Rel n v b → (peer id : ℕ) → find peer id (opens v) ≡ none
+    → Rel n v (clocked (b .clock) (without peer id (b .model)))
+cancel-absent {b = b} rel peer id h = rw (without-none peer id (b .model) (find-is rel peer id ∙ h)) rel
 
-pub cancel-rel : {n : ℕ} {v : Value} {b : Model} → Rel n v b → (peer id : ℕ) → Rel n (cancelled v peer id) (without peer id b)
+pub cancel-rel : {n : ℕ} {v : Value} {b : Clocked} → Rel n v b → (peer id : ℕ)
+    → Rel n (cancelled v peer id) (clocked (b .clock) (without peer id (b .model)))
 unfolding cancelled
 cancel-rel {n} {v} {b} rel peer id = go (view (isOwn peer) (v .recs))
   where
     change : Rec → Rec
     change r = withCells r (onFirst (hasId id) shut (r .cells))
 
-    go : Apart peer (v .recs) ⊎ Split (isOwn peer) (v .recs) → Rel n (withRecs v (onFirst (isOwn peer) change (v .recs))) (without peer id b)
+    go : Apart peer (v .recs) ⊎ Split (isOwn peer) (v .recs)
+        → Rel n (withRecs v (onFirst (isOwn peer) change (v .recs))) (clocked (b .clock) (without peer id (b .model)))
     go (inl a) =
         rw (onFirst-absent (isOwn peer) change (v .recs) a) (cancel-absent rel peer id (away-find peer id (opens v) (apart-away peer (v .recs) (rel .tidy) a)))
     go (inr s) = inner (view (hasId id) (s .hit .cells))
@@ -142,13 +149,14 @@ cancel-rel {n} {v} {b} rel peer id = go (view (isOwn peer) (v .recs))
         changes cells e = split-onFirst s change ∙ ap (λ (l : List Cell). s .before ++ withCells (s .hit) l ∷ s .after) e
 
         inner : NoneOf (hasId id) (s .hit .cells) ⊎ Split (hasId id) (s .hit .cells)
-            → Rel n (withRecs v (onFirst (isOwn peer) change (v .recs))) (without peer id b)
+            → Rel n (withRecs v (onFirst (isOwn peer) change (v .recs))) (clocked (b .clock) (without peer id (b .model)))
         inner (inl a) =
             rw (changes (s .hit .cells) (onFirst-absent (hasId id) shut (s .hit .cells) a) ∙ sym (s .parts))
             (cancel-absent rel peer id (own-find peer (rel .tidy) s id a))
         inner (inr u) =
             rw (changes (u .before ++ shut (u .hit) ∷ u .after) (split-onFirst u shut) ∙ bound)
-            (put-rel rel s u (v .clock) peer id none (s .fails) (own-after peer (rel .tidy) s) (own-open rel peer id s u .3) (shut (u .hit)) refl)
+            (put-rel rel s u (v .clock) peer id none (s .fails) (own-after peer (rel .tidy) s) (own-open rel peer id s u .3) (shut (u .hit)) refl
+            (rel .clock-is))
           where
             bound : putCell s u (s .hit .bound) (s .hit .muid) (shut (u .hit)) ≡ putCell s u true peer (shut (u .hit))
             bound = ap₂ (λ (d : Bool) (muid : ℕ). putCell s u d muid (shut (u .hit))) (own-bound peer (rel .tidy) s) (sym (own-muid peer (rel .tidy) s))
@@ -173,10 +181,10 @@ usedIn r = tally isUsed (r .cells)
 abbrev hasIn : ℕ → Rec → Bool
 hasIn id r = some-cell (hasId id) (r .cells)
 
-pub drops-are : {n : ℕ} {v : Value} {b : Model} → Rel n v b → (peer : ℕ) → drops peer (v .recs) ≡ openOf peer b
+pub drops-are : {n : ℕ} {v : Value} {b : Clocked} → Rel n v b → (peer : ℕ) → drops peer (v .recs) ≡ openOf peer (b .model)
 drops-are {n} {v} {b} rel peer = go (view (isOwn peer) (v .recs))
   where
-    go : Apart peer (v .recs) ⊎ Split (isOwn peer) (v .recs) → drops peer (v .recs) ≡ openOf peer b
+    go : Apart peer (v .recs) ⊎ Split (isOwn peer) (v .recs) → drops peer (v .recs) ≡ openOf peer (b .model)
     go (inl a) =
         own-absent usedIn peer (drops peer) (λ r recs. refl) (v .recs) a
         ∙ sym (tally-is rel peer ∙ away-tally peer (opens v) (apart-away peer (v .recs) (rel .tidy) a))
@@ -193,18 +201,18 @@ some-hit {test} u = ap (some-cell test) (u .parts) ∙ go (u .before)
     go [] = rw (u .passes)
     go (x ∷ us) = rw (go us) (or-true (test x))
 
-pub cancels-are : {n : ℕ} {v : Value} {b : Model} → Rel n v b → (peer id : ℕ) → cancels peer id (v .recs) ≡ not (isNone (find peer id b))
+pub cancels-are : {n : ℕ} {v : Value} {b : Clocked} → Rel n v b → (peer id : ℕ) → cancels peer id (v .recs) ≡ not (isNone (find peer id (b .model)))
 cancels-are {n} {v} {b} rel peer id = go (view (isOwn peer) (v .recs))
   where
-    told : (o : Option Open) → find peer id b ≡ o → not (isNone o) ≡ not (isNone (find peer id b))
+    told : (o : Option Open) → find peer id (b .model) ≡ o → not (isNone o) ≡ not (isNone (find peer id (b .model)))
     told o e = ap (λ (x : Option Open). not (isNone x)) (sym e)
 
-    go : Apart peer (v .recs) ⊎ Split (isOwn peer) (v .recs) → cancels peer id (v .recs) ≡ not (isNone (find peer id b))
+    go : Apart peer (v .recs) ⊎ Split (isOwn peer) (v .recs) → cancels peer id (v .recs) ≡ not (isNone (find peer id (b .model)))
     go (inl a) =
         own-absent (hasIn id) peer (cancels peer id) (λ r recs. refl) (v .recs) a
         ∙ told none (find-is rel peer id ∙ away-find peer id (opens v) (apart-away peer (v .recs) (rel .tidy) a))
     go (inr s) = own-hit (hasIn id) peer (cancels peer id) (λ r recs. refl) s ∙ inner (view (hasId id) (s .hit .cells))
       where
-        inner : NoneOf (hasId id) (s .hit .cells) ⊎ Split (hasId id) (s .hit .cells) → hasIn id (s .hit) ≡ not (isNone (find peer id b))
+        inner : NoneOf (hasId id) (s .hit .cells) ⊎ Split (hasId id) (s .hit .cells) → hasIn id (s .hit) ≡ not (isNone (find peer id (b .model)))
         inner (inl a) = some-absent (hasId id) (s .hit .cells) a ∙ told none (find-is rel peer id ∙ own-find peer (rel .tidy) s id a)
         inner (inr u) = let o = own-open rel peer id s u in some-hit u ∙ told (some (o .0)) (o .2)

@@ -14,9 +14,10 @@ use Rattle.pe_frame.specs.Chunk.{Chunk}
 use Rattle.pe_slot.specs.Slot.{Event, waiting, whole}
 use Rattle.pe_slot.specs.Feed.{toldAnswer, outHeader, outBody}
 use Rattle.pe_chunker.specs.Cut.{bodyPieces}
-use Rattle.pe_reassembler.specs.Open.{Perm}
+use Rattle.pe_reassembler.specs.Feed.{nextTick}
 use Rattle.pe_reassembler.specs.declared.shape.Shape.{Shape}
-use Rattle.pe_run.specs.Model.{Model, find, judged, Arrived, arrived, arrives, acted}
+use Rattle.pe_run.specs.Lists.{Perm}
+use Rattle.pe_run.specs.Model.{Clocked, find, judged, Arrived, arrived, arrives, acted}
 use Rattle.pe_run.specs.Calls.{Call, Answer, fed, Arrival, actOf, Right, AllRight}
 use Rattle.pe_run.specs.Demand.{fullSize, isOurs, ours, answersTo, delivered, Room, Spared, Delivery}
 use Rattle.pe_run.proofs.ListLaws.{eqb-self}
@@ -35,9 +36,9 @@ module _ (n peer request-id m : ℕ) (header body : List ℕ) where
 
   -- From any model in which the slot holds the chunks that have come, the rest are answered as they should be.
   abbrev Story : List Call → Type 0
-  Story calls = (b : Model) (held : List Chunk) (last : ℕ) (told : List Answer)
+  Story calls = (b : Clocked) (held : List Chunk) (last tick : ℕ) (told : List Answer)
       → Good header body m (held ++ carried (mine calls))
-      → find peer request-id b ≡ some (openAt last (slotWith header m held))
+      → find peer request-id (b .model) ≡ some (openAt last tick (slotWith header m held))
       → Spared peer request-id last (map (actOf full) calls)
       → AllRight full b calls told
       → answersTo full peer request-id calls told ≡ delivered header body (mine calls)
@@ -46,11 +47,11 @@ module _ (n peer request-id m : ℕ) (header body : List ℕ) where
   tells answer a = fed (toldAnswer answer) (outHeader answer (a .out-header)) (outBody answer (a .out-body))
 
   -- one of ours, at a slot that holds what has come
-  module _ (calls : List Call) (b : Model) (held : List Chunk) (c : Call) (k : Carrying full peer request-id c) (count : ℕ) (told : Answer) (more : List Answer)
+  module _ (calls : List Call) (b : Clocked) (held : List Chunk) (c : Call) (k : Carrying full peer request-id c) (count : ℕ) (told : Answer) (more : List Answer)
       (g : Good header body m (held ++ k .arrival .chunk ∷ carried (mine calls)))
       (known : (eqb count 0 || eqb count m) ≡ true)
       (here : arrives full b (k .arrival .peer) (k .arrival .chunk) (k .arrival .time)
-      ≡ arrived peer request-id b (judged full (openAt (k .arrival .time) (slotWith header count held)) (k .arrival .chunk)))
+      ≡ arrived peer request-id b (judged full (openAt (k .arrival .time) (nextTick (b .clock)) (slotWith header count held)) (k .arrival .chunk)))
       (spared : Spared peer request-id (k .arrival .time) (map (actOf full) calls))
       (right : Right full b c told) (rest-right : AllRight full (acted full b (actOf full c)) calls more) (story : Story calls) where
     abbrev chunk : Chunk
@@ -59,16 +60,19 @@ module _ (n peer request-id m : ℕ) (header body : List ℕ) where
     abbrev time : ℕ
     time = k .arrival .time
 
+    abbrev tick : ℕ
+    tick = nextTick (b .clock)
+
     abbrev now : Arrived
     now = arrives full b (k .arrival .peer) chunk time
 
-    now-is : now ≡ arrived peer request-id b (settled time (slotWith header m (held ++ (chunk ∷ []))))
-    now-is = here ∙ ap (arrived peer request-id b) (judged-good held chunk (carried (mine calls)) g n time count known)
+    now-is : now ≡ arrived peer request-id b (settled time tick (slotWith header m (held ++ (chunk ∷ []))))
+    now-is = here ∙ ap (arrived peer request-id b) (judged-good held chunk (carried (mine calls)) g n time tick count known)
 
     told-is : (answer : Reply Event) → now .answer ≡ answer → told ≡ tells answer (k .arrival)
     told-is answer e = answer-arrives full b c (k .arrival) told (k .arrives) right ∙ ap (λ (r : Reply Event). tells r (k .arrival)) e
 
-    on : acted full b (actOf full c) ≡ now .model
+    on : acted full b (actOf full c) ≡ now .left
     on = ap (acted full b) (act-arrives full c (k .arrival) (k .arrives))
 
     good-on : Good header body m (held ++ (chunk ∷ []) ++ carried (mine calls))
@@ -86,27 +90,27 @@ module _ (n peer request-id m : ℕ) (header body : List ℕ) where
             all = subst (λ (l : List Arrival). Good header body m (held ++ chunk ∷ carried l)) w g
 
             ended : now ≡ arrived peer request-id b (judgedTo none (whole header body))
-            ended = now-is ∙ ap (arrived peer request-id b) (settled-last time all)
+            ended = now-is ∙ ap (arrived peer request-id b) (settled-last time tick all)
         go (d ∷ ds) w =
             ap₂ (λ (a : Answer) (l : List Answer). a ∷ l) (told-is (granted waiting) (ap (λ (r : Arrived). r .answer) open′))
-            (story (now .model) (held ++ (chunk ∷ [])) time more good-on found spared (subst (λ (x : Model). AllRight full x calls more) on rest-right)
+            (story (now .left) (held ++ (chunk ∷ [])) time tick more good-on found spared (subst (λ (x : Clocked). AllRight full x calls more) on rest-right)
             ∙ ap (delivered header body) w)
           where
             still-one : Good header body m (held ++ (chunk ∷ []) ++ d .chunk ∷ carried ds)
             still-one = subst (λ (l : List Arrival). Good header body m (held ++ (chunk ∷ []) ++ carried l)) w good-on
 
-            open′ : now ≡ arrived peer request-id b (judgedTo (some (openAt time (slotWith header m (held ++ (chunk ∷ []))))) waiting)
-            open′ = now-is ∙ ap (arrived peer request-id b) (settled-wait (held ++ (chunk ∷ [])) (d .chunk) (carried ds) still-one time)
+            open′ : now ≡ arrived peer request-id b (judgedTo (some (openAt time tick (slotWith header m (held ++ (chunk ∷ []))))) waiting)
+            open′ = now-is ∙ ap (arrived peer request-id b) (settled-wait (held ++ (chunk ∷ [])) (d .chunk) (carried ds) still-one time tick)
 
-            found : find peer request-id (now .model) ≡ some (openAt time (slotWith header m (held ++ (chunk ∷ []))))
+            found : find peer request-id (now .left .model) ≡ some (openAt time tick (slotWith header m (held ++ (chunk ∷ []))))
             found =
-                ap (λ (r : Arrived). find peer request-id (r .model)) open′
-                ∙ find-arrived peer request-id b (openAt time (slotWith header m (held ++ (chunk ∷ []))))
+                ap (λ (r : Arrived). find peer request-id (r .left .model)) open′
+                ∙ find-arrived peer request-id (b .model) (openAt time tick (slotWith header m (held ++ (chunk ∷ []))))
 
   story : (calls : List Call) → Story calls
-  story [] b held last told g f s r = refl
-  story (c ∷ calls) b held last [] g f s r = absurd r
-  story (c ∷ calls) b held last (a ∷ told) g f s r = go (both (isOurs full peer request-id c)) (story calls)
+  story [] b held last tick told g f s r = refl
+  story (c ∷ calls) b held last tick [] g f s r = absurd r
+  story (c ∷ calls) b held last tick (a ∷ told) g f s r = go (both (isOurs full peer request-id c)) (story calls)
     where
       go : (isOurs full peer request-id c ≡ true) ⊎ (isOurs full peer request-id c ≡ false) → Story calls
           → answersTo full peer request-id (c ∷ calls) (a ∷ told) ≡ delivered header body (mine (c ∷ calls))
@@ -119,25 +123,25 @@ module _ (n peer request-id m : ℕ) (header body : List ℕ) where
           k : Carrying full peer request-id c
           k = ours-told full peer request-id c u
 
-          found : find (k .arrival .peer) (k .arrival .chunk .request-id) b ≡ some (openAt last (slotWith header m held))
-          found = ap₂ (λ (p i : ℕ). find p i b) (sym (peer-is full peer request-id c k)) (sym (id-is full peer request-id c k)) ∙ f
+          found : find (k .arrival .peer) (k .arrival .chunk .request-id) (b .model) ≡ some (openAt last tick (slotWith header m held))
+          found = ap₂ (λ (p i : ℕ). find p i (b .model)) (sym (peer-is full peer request-id c k)) (sym (id-is full peer request-id c k)) ∙ f
 
           here : arrives full b (k .arrival .peer) (k .arrival .chunk) (k .arrival .time)
-              ≡ arrived peer request-id b (judged full (openAt (k .arrival .time) (slotWith header m held)) (k .arrival .chunk))
+              ≡ arrived peer request-id b (judged full (openAt (k .arrival .time) (nextTick (b .clock)) (slotWith header m held)) (k .arrival .chunk))
           here =
-              arrive-open full (k .arrival .peer) b (openAt last (slotWith header m held)) (k .arrival .chunk) (k .arrival .time) found
-              ∙ ap₂ (λ (p i : ℕ). arrived p i b (judged full (openAt (k .arrival .time) (slotWith header m held)) (k .arrival .chunk)))
+              arrive-open full (k .arrival .peer) b (openAt last tick (slotWith header m held)) (k .arrival .chunk) (k .arrival .time) found
+              ∙ ap₂ (λ (p i : ℕ). arrived p i b (judged full (openAt (k .arrival .time) (nextTick (b .clock)) (slotWith header m held)) (k .arrival .chunk)))
               (sym (peer-is full peer request-id c k)) (sym (id-is full peer request-id c k))
       go (inr u) ih =
-          let p = find-acted peer request-id b (openAt last (slotWith header m held)) f full (actOf full c) (map (actOf full) calls)
+          let p = find-acted peer request-id b (openAt last tick (slotWith header m held)) f full (actOf full c) (map (actOf full) calls)
           (act-other full peer request-id c u) s in
           let q = ours-other full peer request-id c calls u in
-          rw u (ih (acted full b (actOf full c)) held last told (subst (λ (l : List Arrival). Good header body m (held ++ carried l)) q g) (p .0) (p .1) (r .1))
+          rw u (ih (acted full b (actOf full c)) held last tick told (subst (λ (l : List Arrival). Good header body m (held ++ carried l)) q g) (p .0) (p .1) (r .1))
           ∙ ap (delivered header body) (sym q)
 
 -- Every chunk but the last is answered waiting, and the last hands out header and body.
-pub deliver : (n : ℕ) (b : Model) (peer request-id : ℕ) (header body : List ℕ) (limit : ℕ) (first : Call) (rest : List Call) (told : List Answer)
-    → Delivery n b peer request-id header body limit first rest
+pub deliver : (n : ℕ) (b : Clocked) (peer request-id : ℕ) (header body : List ℕ) (limit : ℕ) (first : Call) (rest : List Call) (told : List Answer)
+    → Delivery n (b .model) peer request-id header body limit first rest
     → AllRight (fullSize n) b (first ∷ rest) told
     → answersTo (fullSize n) peer request-id (first ∷ rest) told ≡ delivered header body (ours (fullSize n) peer request-id (first ∷ rest))
 deliver n b peer request-id header body limit first rest [] d r = absurd r
@@ -171,9 +175,9 @@ deliver n b peer request-id header body limit first rest (a ∷ told) d r =
     id-eq = id-is (fullSize n) peer request-id first k
 
     here : arrives (fullSize n) b (k .arrival .peer) (k .arrival .chunk) (k .arrival .time)
-        ≡ arrived peer request-id b (judged (fullSize n) (openAt (k .arrival .time) (slotWith header 0 [])) (k .arrival .chunk))
+        ≡ arrived peer request-id b (judged (fullSize n) (openAt (k .arrival .time) (nextTick (b .clock)) (slotWith header 0 [])) (k .arrival .chunk))
     here =
         arrive-new (fullSize n) (k .arrival .peer) b (k .arrival .chunk) (k .arrival .time)
-        (subst (λ (p : ℕ). Room n p (k .arrival .chunk .request-id) b) peer-eq (subst (λ (i : ℕ). Room n peer i b) id-eq (d .room)))
-        ∙ ap₂ (λ (p i : ℕ). arrived p i b (judged (fullSize n) (openAt (k .arrival .time) (slotWith header 0 [])) (k .arrival .chunk))) (sym peer-eq)
+        (subst (λ (p : ℕ). Room n p (k .arrival .chunk .request-id) (b .model)) peer-eq (subst (λ (i : ℕ). Room n peer i (b .model)) id-eq (d .room)))
+        ∙ ap₂ (λ (p i : ℕ). arrived p i b (judged (fullSize n) (openAt (k .arrival .time) (nextTick (b .clock)) (slotWith header 0 [])) (k .arrival .chunk))) (sym peer-eq)
         (sym id-eq)

@@ -1,7 +1,9 @@
--- Demand 3, proved: every answer of every run is the model's, no peer has more than four open, and a list whose chunks arrive is handed out.
+-- Demand 3, proved: every answer of every run is the model's, no peer has more than four open, no two slots share peer and id, and a list whose
+-- chunks arrive is handed out.
 -- Assumes nothing.
 use Prim.Native.Nat.{ℕ, _+_, _≤_}
-use mathlib.Core.Bool.{true}
+use mathlib.Core.Bool.{true, _&&_}
+use mathlib.Core.Option.{none}
 use mathlib.Core.List.{List, [], _∷_, map}
 use mathlib.Core.Path.{_≡_, refl}
 use native.Mathlib.Omega.{arith}
@@ -18,12 +20,13 @@ use Rattle.pe_chunker.proofs.Theorems.{split-count, split-each}
 use Rattle.pe_reassembler.specs.declared.shape.Shape.{Shape}
 use Rattle.pe_reassembler.specs.Open.{Shown, openSlots}
 use Rattle.pe_run.specs.Lists.{tally}
-use Rattle.pe_run.specs.Model.{Model, isOf, acted}
+use Rattle.pe_run.specs.Model.{Model, Clocked, start, isOf, find, acted}
 use Rattle.pe_run.specs.Calls.{Call, Answer, actOf, modelFrom, modelAfter, shownOf, AllRight}
 use Rattle.pe_run.specs.Run.{Table, LongFor, made, step, tableFrom, Run}
-use Rattle.pe_run.specs.Demand.{fullSize, CutInto, Demand}
+use Rattle.pe_run.specs.Demand.{fullSize, CutInto, Apart, Demand}
 use Rattle.pe_run.proofs.Value.{valueOf, opens}
-use Rattle.pe_run.proofs.ModelLaws.{Four, four-step}
+use Rattle.pe_run.proofs.ModelLaws.{find-none-head, find-none-tail, Unique, perm-unique, Four, four-step}
+use Rattle.pe_run.proofs.PermLaws.{perm-sym}
 use Rattle.pe_run.proofs.RowLaws.{open-rows}
 use Rattle.pe_run.proofs.Refine.{four-open}
 use Rattle.pe_run.proofs.Kept.{Kept, kept-new, step-kept, right}
@@ -36,13 +39,22 @@ tally-shown : (peer : ℕ) (b : Model) → tally (λ (r : Shown). eqb peer (r .p
 tally-shown peer [] = refl
 tally-shown peer (e ∷ b) = rw (tally-shown peer b)
 
+-- and where each peer and request id is there once, no two rows share them
+none-shown : (peer id : ℕ) (b : Model) → find peer id b ≡ none → tally (λ (r : Shown). eqb peer (r .peer) && eqb id (r .request-id)) (map shownOf b) ≡ 0
+none-shown peer id [] h = refl
+none-shown peer id (e ∷ b) h = rw (find-none-head peer id e b h) (none-shown peer id b (find-none-tail peer id e b h))
+
+apart-shown : (b : Model) → Unique b → Apart (map shownOf b)
+apart-shown [] u = tt
+apart-shown (e ∷ b) u = (none-shown (e .peer) (e .request-id) b (u .0), apart-shown b (u .1))
+
 -- ---- any shape
 module _ (shape : Shape) where
-  pub kept-all : (t : Table) (b : Model) (calls : List Call) → Kept shape t b → Kept shape (tableFrom shape t calls) (modelFrom shape b calls)
+  pub kept-all : (t : Table) (b : Clocked) (calls : List Call) → Kept shape t b → Kept shape (tableFrom shape t calls) (modelFrom shape b calls)
   kept-all t b [] k = k
   kept-all t b (c ∷ calls) k = kept-all (step shape t c) (acted shape b (actOf shape c)) calls (step-kept shape t b k c)
 
-  all-right : (t : Table) (b : Model) (calls : List Call) (told : List Answer) → Kept shape t b → Run shape t calls told → AllRight shape b calls told
+  all-right : (t : Table) (b : Clocked) (calls : List Call) (told : List Answer) → Kept shape t b → Run shape t calls told → AllRight shape b calls told
   all-right t b [] [] k r = tt
   all-right t b [] (a ∷ told) k r = r
   all-right t b (c ∷ calls) [] k r = r
@@ -53,9 +65,9 @@ module _ (shape : Shape) where
   pub answers-right : (t : Table) → LongFor shape t → (before calls : List Call) (told : List Answer)
       → Run shape (tableFrom shape (made shape t) before) calls told → AllRight shape (modelAfter shape before) calls told
   answers-right t long before calls told r =
-      all-right (tableFrom shape (made shape t) before) (modelAfter shape before) calls told (kept-all (made shape t) [] before (kept-new shape t long)) r
+      all-right (tableFrom shape (made shape t) before) (modelAfter shape before) calls told (kept-all (made shape t) start before (kept-new shape t long)) r
 
-  four-all : (b : Model) (calls : List Call) → Four b → Four (modelFrom shape b calls)
+  four-all : (b : Clocked) (calls : List Call) → Four (b .model) → Four (modelFrom shape b calls .model)
   four-all b [] f = f
   four-all b (c ∷ calls) f = four-all (acted shape b (actOf shape c)) calls (four-step shape b (actOf shape c) f)
 
@@ -63,12 +75,19 @@ module _ (shape : Shape) where
   pub four-slots : (t : Table) → LongFor shape t → (calls : List Call) (peer : ℕ)
       → tally (λ (r : Shown). eqb peer (r .peer)) (openSlots shape (tableFrom shape (made shape t) calls .numbers)) ≤ 4
   four-slots t long calls peer =
-      let k = kept-all (made shape t) [] calls (kept-new shape t long) in
+      let k = kept-all (made shape t) start calls (kept-new shape t long) in
       rw (
         open-rows shape (tableFrom shape (made shape t) calls) (k .long) (k .sound),
         tally-shown peer (opens (valueOf shape (tableFrom shape (made shape t) calls))),
       )
-      (four-open (k .rel) (four-all [] calls (λ p. omega arith)) peer)
+      (four-open (k .rel) (four-all start calls (λ p. omega arith)) peer)
+
+  -- no two open slots share peer and request id
+  pub slots-apart : (t : Table) → LongFor shape t → (calls : List Call) → Apart (openSlots shape (tableFrom shape (made shape t) calls .numbers))
+  slots-apart t long calls =
+      let k = kept-all (made shape t) start calls (kept-new shape t long) in
+      rw (open-rows shape (tableFrom shape (made shape t) calls) (k .long) (k .sound))
+      (apart-shown (opens (valueOf shape (tableFrom shape (made shape t) calls))) (perm-unique (perm-sym (k .rel .same)) (k .rel .unique)))
 
 -- A list that is cut into all its chunks at once is one of which delivery speaks.
 pub split-into : (request-id : ℕ) (header body : List ℕ) (limit room places : ℕ) (chunks : List (List ℕ))
@@ -103,6 +122,7 @@ demand n t few long =
     record {
       answers = λ calls told r. answers-right (fullSize n) t enough [] calls told r;
       four = four-slots (fullSize n) t enough;
+      apart = slots-apart (fullSize n) t enough;
       delivery = λ before peer request-id header body limit first rest told d r.
           deliver n (modelAfter (fullSize n) before) peer request-id header body limit first rest told d
           (answers-right (fullSize n) t enough before (first ∷ rest) told r);

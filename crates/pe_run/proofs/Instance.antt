@@ -22,9 +22,10 @@ use Rattle.pe_slot.specs.Slot.{Piece, held, allHeld, bodyLen, isWhole, eventOf,
 use Rattle.pe_slot.specs.Slot.{heldWithin, countAgrees, newCount, afterChunk, passed, judge}
 use Rattle.pe_chunker.specs.Cut.{clamped, budget, laterCapacity, firstCapacity, askFirst, cutUp, bodyPieces, chunkAt, askCut, cutCount, cutChunk}
 use Rattle.pe_chunker.proofs.Theorems.{fields-in-range, budget-is-room}
-use Rattle.pe_reassembler.specs.Open.{Perm, swap}
+use Rattle.pe_reassembler.specs.Feed.{nextTick}
 use Rattle.pe_reassembler.specs.Table.{isMuid}
-use Rattle.pe_run.specs.Model.{Entry, Model, findsRecord, hasFour, judged, arrives}
+use Rattle.pe_run.specs.Lists.{Perm, swap}
+use Rattle.pe_run.specs.Model.{Entry, Model, Clocked, clocked, findsRecord, hasFour, judged, arrives}
 use Rattle.pe_run.specs.Calls.{Arrival, arrival, actOf, hasOutputs, fedArrival, messageArrival, modelAfter}
 use Rattle.pe_run.specs.Instance.{lentHeader, lentBody, header, body, one, two, oneInMessage, torn, other, stray, before, firstCall, rest}
 use Rattle.pe_run.specs.Demand.{fullSize, CutInto, ours, Room, Spared, Delivery}
@@ -146,24 +147,25 @@ unfolding fedArrival readFields readEnd readU14 isSevenBit numberOf
 torn-refused = rw outputs-long refl
 
 -- ---- what is open when the first of them comes
-abbrev pub entry : ℕ → ℕ → ℕ → Option (List ℕ) → ℕ → List Piece → Entry
-entry peer request-id time header count pieces =
-    record { peer = peer; request-id = request-id; state = record { time = time; slot = record { header = header; count = count; pieces = pieces } } }
+abbrev pub entry : ℕ → ℕ → ℕ → ℕ → Option (List ℕ) → ℕ → List Piece → Entry
+entry peer request-id time tick header count pieces =
+    record { peer = peer; request-id = request-id; state = record { time = time; tick = tick; slot = record { header = header; count = count; pieces = pieces } } }
 
 abbrev pub piece : ℕ → List ℕ → Piece
 piece number bytes = record { number = number; bytes = bytes }
 
 abbrev pub open-before : Model
-open-before = entry 9 6 10 (some []) 3 (piece 1 (9 ∷ []) ∷ []) ∷ entry 8 5 0 (some []) 3 (piece 1 (9 ∷ []) ∷ []) ∷ []
+open-before = entry 9 6 10 3 (some []) 3 (piece 1 (9 ∷ []) ∷ []) ∷ entry 8 5 0 2 (some []) 3 (piece 1 (9 ∷ []) ∷ []) ∷ []
 
-pub before-is : modelAfter (fullSize 2) before ≡ open-before
-unfolding arrives findsRecord hasFour judged judge headerFits headerAgrees sameHeader withinCount heldWithin countAgrees newHeader newCount noneKnown held
+pub before-is : modelAfter (fullSize 2) before ≡ clocked 3 open-before
+unfolding nextTick arrives findsRecord hasFour judged judge headerFits headerAgrees sameHeader withinCount heldWithin countAgrees newHeader newCount noneKnown held
     bodyLen afterChunk passed isWhole allHeld eventOf
 before-is = rw (arrives-before-8, arrives-before-9) refl
 
-instance-room : Room 2 9 5 (modelAfter (fullSize 2) before)
+instance-room : Room 2 9 5 (modelAfter (fullSize 2) before .model)
 unfolding findsRecord
-instance-room = rw before-is (record { record-found = refl; not-open = refl; fewer = omega arith })
+instance-room =
+    subst (λ (b : Clocked). Room 2 9 5 (b .model)) (sym before-is) (record { record-found = refl; not-open = refl; fewer = omega arith })
 
 instance-once : Perm (map (λ (a : Arrival). a .bytes) (ours (fullSize 2) 9 5 (firstCall ∷ rest))) (chunkBytes one ∷ chunkBytes two ∷ [])
 instance-once = rw (arrives-first, arrives-8, arrives-9, arrives-stray, torn-refused, message-arrives) swap
@@ -171,7 +173,7 @@ instance-once = rw (arrives-first, arrives-8, arrives-9, arrives-stray, torn-ref
 instance-spared : Spared 9 5 0 (map (actOf (fullSize 2)) (firstCall ∷ rest))
 instance-spared = rw (arrives-first, arrives-8, arrives-9, arrives-stray, torn-refused, message-arrives) (omega arith, (omega arith, (refl, (refl, tt))))
 
-pub instance : Delivery 2 (modelAfter (fullSize 2) before) 9 5 header body 128 firstCall rest
+pub instance : Delivery 2 (modelAfter (fullSize 2) before .model) 9 5 header body 128 firstCall rest
 instance =
     record {
       chunks = chunkBytes one ∷ chunkBytes two ∷ [];

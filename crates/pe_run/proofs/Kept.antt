@@ -16,7 +16,7 @@ use Rattle.pe_reassembler.specs.Feed.{FeedLeft}
 use Rattle.pe_reassembler.specs.Table.{isMuid}
 use Rattle.pe_reassembler.proofs.SoundLaws.{SlotsSound, sound-new, sound-feed, sound-message, sound-cancel, sound-drop, sound-poll}
 use Rattle.pe_run.specs.Model as Acts
-use Rattle.pe_run.specs.Model.{Model, find, isNone, openOf, arrives, acted}
+use Rattle.pe_run.specs.Model.{Clocked, start, find, isNone, openOf, arrives, acted}
 use Rattle.pe_run.specs.Calls.{Call, feed, feed-message, cancel, drop-peer, poll, memory-stats, reserved-bytes, open-list, Answer, fed, was-open, counted, Arrival, fedArrival, messageArrival, grantedOf, arrivalAct, hasPlaces, actOf, arrivalAnswer, Right}
 use Rattle.pe_run.specs.Run.{Table, LongFor, made, lent, kept, step, feedTold, Answers}
 use Rattle.pe_run.proofs.Value.{Value, valueOf}
@@ -31,25 +31,25 @@ use Rattle.pe_run.proofs.ValueNew.{new-value, new-long}
 use Rattle.pe_run.proofs.Listings.{poll-right, list-right, stats-right, reserved-right}
 
 -- memory is long enough, question 31 has a yes of every slot, and what memory stands for is what the model has open
-pub record Kept (shape : Shape) (t : Table) (b : Model) : Type 0 where
+pub record Kept (shape : Shape) (t : Table) (b : Clocked) : Type 0 where
   pub long : LongFor shape t
   pub sound : SlotsSound shape (t .numbers) (t .index)
   pub rel : Rel (shape .«max_peers») (valueOf shape t) b
 
-pub kept-new : (shape : Shape) (t : Table) → LongFor shape t → Kept shape (made shape t) []
+pub kept-new : (shape : Shape) (t : Table) → LongFor shape t → Kept shape (made shape t) start
 kept-new shape t long =
     record {
       long = new-long shape t long;
       sound = sound-new shape (t .numbers) (t .index) (t .headers) (t .arenas) long;
-      rel = subst (λ (v : Value). Rel (shape .«max_peers») v []) (sym (new-value shape t long)) (fresh-rel (shape .«max_peers»));
+      rel = subst (λ (v : Value). Rel (shape .«max_peers») v start) (sym (new-value shape t long)) (fresh-rel (shape .«max_peers»));
     }
 
 -- the part of it that a call's own slots do not settle, and the answer
-record Stepped (shape : Shape) (t : Table) (b : Model) : Type 0 where
+record Stepped (shape : Shape) (t : Table) (b : Clocked) : Type 0 where
   long : LongFor shape t
   rel : Rel (shape .«max_peers») (valueOf shape t) b
 
-module _ (shape : Shape) (t : Table) (b : Model) (k : Kept shape t b) where
+module _ (shape : Shape) (t : Table) (b : Clocked) (k : Kept shape t b) where
   -- ---- what arrives, or is refused ahead
   module _ (out-header out-body : List ℕ) where
     told-same : (r : FeedLeft) (x y : Reply Event) → x ≡ y → r .answer ≡ toldAnswer x → r .memory .out-header ≡ outHeader x out-header
@@ -67,7 +67,7 @@ module _ (shape : Shape) (t : Table) (b : Model) (k : Kept shape t b) where
         record {
           long = v .long;
           rel =
-              subst (λ (x : Value). Rel (shape .«max_peers») x (arrives shape b (a .peer) (a .chunk) (a .time) .model)) (sym (v .value-is))
+              subst (λ (x : Value). Rel (shape .«max_peers») x (arrives shape b (a .peer) (a .chunk) (a .time) .left)) (sym (v .value-is))
               (take-rel shape (k .rel) (a .peer) (a .chunk) (a .time) .rel);
         }
     reached-stepped (refused number value) small = record { long = k .long; rel = k .rel }
@@ -83,7 +83,7 @@ module _ (shape : Shape) (t : Table) (b : Model) (k : Kept shape t b) where
         (v .out-header-is) (v .out-body-is)
     reached-right (refused number value) small = refl
 
-  with-sound : (t′ : Table) (b′ : Model) → SlotsSound shape (t′ .numbers) (t′ .index) → Stepped shape t′ b′ → Kept shape t′ b′
+  with-sound : (t′ : Table) (b′ : Clocked) → SlotsSound shape (t′ .numbers) (t′ .index) → Stepped shape t′ b′ → Kept shape t′ b′
   with-sound t′ b′ s p = record { long = p .long; sound = s; rel = p .rel }
 
   -- ---- every call keeps it
@@ -155,13 +155,13 @@ module _ (shape : Shape) (t : Table) (b : Model) (k : Kept shape t b) where
 
   -- ---- every call answers as the model does
   cancel-told : (peer request-id : ℕ) → (isMuid peer ≡ true) ⊎ (isMuid peer ≡ false)
-      → cancelCall shape (t .numbers) peer request-id .answer ≡ cond (isMuid peer) (granted (not (isNone (find peer request-id b)))) (refused 28 0)
+      → cancelCall shape (t .numbers) peer request-id .answer ≡ cond (isMuid peer) (granted (not (isNone (find peer request-id (b .model))))) (refused 28 0)
   cancel-told peer request-id (inl e) =
       rw e (cancel-value shape t peer request-id (k .long) e .answer-is ∙ ap (λ (x : Bool). granted x) (cancels-are (k .rel) peer request-id))
   cancel-told peer request-id (inr e) = rw (e, cancel-refused shape t peer request-id (k .long) e)
 
   drop-told : (peer : ℕ) → (isMuid peer ≡ true) ⊎ (isMuid peer ≡ false)
-      → dropCall shape (t .numbers) peer .answer ≡ cond (isMuid peer) (granted (openOf peer b)) (refused 28 0)
+      → dropCall shape (t .numbers) peer .answer ≡ cond (isMuid peer) (granted (openOf peer (b .model))) (refused 28 0)
   drop-told peer (inl e) = rw e (drop-value shape t peer (k .long) e .answer-is ∙ ap (λ (x : ℕ). granted x) (drops-are (k .rel) peer))
   drop-told peer (inr e) = rw (e, drop-refused shape t peer (k .long) e)
 
@@ -179,4 +179,4 @@ module _ (shape : Shape) (t : Table) (b : Model) (k : Kept shape t b) where
   right (poll now-ms out-peers out-ids) a e = poll-right shape t b (k .long) (k .rel .same) now-ms out-peers out-ids a e
   right memory-stats a e = stats-right shape t b (k .long) (k .rel .same) (k .sound) a e
   right reserved-bytes a e = reserved-right shape t b (k .long) (k .rel .same) a e
-  right (open-list out-peers out-ids out-held) a e = list-right shape t b (k .long) (k .rel .same) (k .sound) out-peers out-ids out-held a e
+  right (open-list out-peers out-ids out-held) a e = list-right shape t b (k .long) (k .rel .same) (k .sound) (k .rel .unique) out-peers out-ids out-held a e

@@ -12,10 +12,10 @@ use lib.Dec.{leb, eqb}
 use Rattle.seven_bit.specs.Reply.{refused}
 use Rattle.seven_bit.proofs.ReplyLaws.{both, and-told}
 use Rattle.pe_frame.specs.Chunk.{Chunk}
-use Rattle.pe_reassembler.specs.Open.{Perm, empty, skip, swap, then}
+use Rattle.pe_reassembler.specs.Feed.{nextTick}
 use Rattle.pe_reassembler.specs.declared.shape.Shape.{Shape}
-use Rattle.pe_run.specs.Lists.{keep, tally}
-use Rattle.pe_run.specs.Model.{Open, Entry, Model, isAt, isOf, isLate, find, findsRecord, hasFour, touchedAt, judged, entryOf, without, Arrived, arrived, arrives, Act, arrive, cancel, drop, poll, nothing, acted}
+use Rattle.pe_run.specs.Lists.{keep, tally, Perm, empty, skip, swap, then}
+use Rattle.pe_run.specs.Model.{Open, Entry, Model, Clocked, isAt, isOf, isLate, find, findsRecord, hasFour, touchedAt, judged, entryOf, without, Arrived, arrived, arrives, Act, arrive, cancel, drop, poll, nothing, acted}
 use Rattle.pe_run.proofs.ListLaws.{eqb-sym, tally-keep}
 
 -- ---- finding
@@ -32,14 +32,14 @@ at-sym : (x y : Entry) → isAt (x .peer) (x .request-id) y ≡ isAt (y .peer) (
 at-sym x y = ap₂ (λ (a b : Bool). a && b) (eqb-sym (x .peer) (y .peer)) (eqb-sym (x .request-id) (y .request-id))
 
 -- nothing found: neither the first nor the rest
-find-none-head : (peer id : ℕ) (e : Entry) (b : Model) → find peer id (e ∷ b) ≡ none → isAt peer id e ≡ false
+pub find-none-head : (peer id : ℕ) (e : Entry) (b : Model) → find peer id (e ∷ b) ≡ none → isAt peer id e ≡ false
 find-none-head peer id e b h = go (both (isAt peer id e))
   where
     go : (isAt peer id e ≡ true) ⊎ (isAt peer id e ≡ false) → isAt peer id e ≡ false
     go (inl a) = let z : some (e .state) ≡ none = rw a at h in cc
     go (inr a) = a
 
-find-none-tail : (peer id : ℕ) (e : Entry) (b : Model) → find peer id (e ∷ b) ≡ none → find peer id b ≡ none
+pub find-none-tail : (peer id : ℕ) (e : Entry) (b : Model) → find peer id (e ∷ b) ≡ none → find peer id b ≡ none
 find-none-tail peer id e b h = rw (find-none-head peer id e b h) at h
 
 pub find-append : (peer id : ℕ) (a b : Model) → find peer id a ≡ none → find peer id (a ++ b) ≡ find peer id b
@@ -113,37 +113,41 @@ unique-arrived peer id b none u = unique-keep (λ (e : Entry). not (isAt peer id
 unique-arrived peer id b (some x) u = (find-without peer id b, unique-keep (λ (e : Entry). not (isAt peer id e)) b u)
 
 -- what a chunk does: it is refused by 7 or 6, or it reaches its slot
-module _ (shape : Shape) (b : Model) (peer : ℕ) (c : Chunk) (now-ms : ℕ) where
+module _ (shape : Shape) (b : Clocked) (peer : ℕ) (c : Chunk) (now-ms : ℕ) where
+  -- what is open in its slot then
+  abbrev pub reachedOpen : Open
+  reachedOpen = touchedAt (find peer (c .request-id) (b .model)) now-ms (nextTick (b .clock))
+
   abbrev Reaches : Type 0
   Reaches =
-      (hasFour peer (c .request-id) b ≡ false)
-      × (arrives shape b peer c now-ms ≡ arrived peer (c .request-id) b (judged shape (touchedAt (find peer (c .request-id) b) now-ms) c))
+      (hasFour peer (c .request-id) (b .model) ≡ false)
+      × (arrives shape b peer c now-ms ≡ arrived peer (c .request-id) b (judged shape reachedOpen c))
 
-  arrives-cases : (arrives shape b peer c now-ms ≡ record { model = b; answer = refused 7 0 })
-      ⊎ ((arrives shape b peer c now-ms ≡ record { model = b; answer = refused 6 0 }) ⊎ Reaches)
+  arrives-cases : (arrives shape b peer c now-ms ≡ record { left = b; answer = refused 7 0 })
+      ⊎ ((arrives shape b peer c now-ms ≡ record { left = b; answer = refused 6 0 }) ⊎ Reaches)
   unfolding arrives
-  arrives-cases = go (both (findsRecord (shape .«max_peers») peer b)) (both (hasFour peer (c .request-id) b))
+  arrives-cases = go (both (findsRecord (shape .«max_peers») peer (b .model))) (both (hasFour peer (c .request-id) (b .model)))
     where
-      go : (findsRecord (shape .«max_peers») peer b ≡ true) ⊎ (findsRecord (shape .«max_peers») peer b ≡ false)
-          → (hasFour peer (c .request-id) b ≡ true) ⊎ (hasFour peer (c .request-id) b ≡ false)
-          → (arrives shape b peer c now-ms ≡ record { model = b; answer = refused 7 0 })
-          ⊎ ((arrives shape b peer c now-ms ≡ record { model = b; answer = refused 6 0 }) ⊎ Reaches)
+      go : (findsRecord (shape .«max_peers») peer (b .model) ≡ true) ⊎ (findsRecord (shape .«max_peers») peer (b .model) ≡ false)
+          → (hasFour peer (c .request-id) (b .model) ≡ true) ⊎ (hasFour peer (c .request-id) (b .model) ≡ false)
+          → (arrives shape b peer c now-ms ≡ record { left = b; answer = refused 7 0 })
+          ⊎ ((arrives shape b peer c now-ms ≡ record { left = b; answer = refused 6 0 }) ⊎ Reaches)
       go (inr e) k = inl (rw e refl)
       go (inl e) (inl k) = inr (inl (rw (e, k) refl))
       go (inl e) (inr k) = inr (inr (k, rw (e, k) refl))
 
   -- what holds of the model, and of it with what a chunk leaves, holds after a chunk
-  pub arrives-keeps : (P : Model → Type 0) → P b
-      → (hasFour peer (c .request-id) b ≡ false
-      → P (entryOf peer (c .request-id) (judged shape (touchedAt (find peer (c .request-id) b) now-ms) c .left) ++ without peer (c .request-id) b))
-      → P (arrives shape b peer c now-ms .model)
+  pub arrives-keeps : (P : Model → Type 0) → P (b .model)
+      → (hasFour peer (c .request-id) (b .model) ≡ false
+      → P (entryOf peer (c .request-id) (judged shape reachedOpen c .left) ++ without peer (c .request-id) (b .model)))
+      → P (arrives shape b peer c now-ms .left .model)
   arrives-keeps P same changed = go arrives-cases
     where
-      go : (arrives shape b peer c now-ms ≡ record { model = b; answer = refused 7 0 })
-          ⊎ ((arrives shape b peer c now-ms ≡ record { model = b; answer = refused 6 0 }) ⊎ Reaches) → P (arrives shape b peer c now-ms .model)
-      go (inl e) = subst (λ (a : Arrived). P (a .model)) (sym e) same
-      go (inr (inl e)) = subst (λ (a : Arrived). P (a .model)) (sym e) same
-      go (inr (inr e)) = subst (λ (a : Arrived). P (a .model)) (sym (e .1)) (changed (e .0))
+      go : (arrives shape b peer c now-ms ≡ record { left = b; answer = refused 7 0 })
+          ⊎ ((arrives shape b peer c now-ms ≡ record { left = b; answer = refused 6 0 }) ⊎ Reaches) → P (arrives shape b peer c now-ms .left .model)
+      go (inl e) = subst (λ (a : Arrived). P (a .left .model)) (sym e) same
+      go (inr (inl e)) = subst (λ (a : Arrived). P (a .left .model)) (sym e) same
+      go (inr (inr e)) = subst (λ (a : Arrived). P (a .left .model)) (sym (e .1)) (changed (e .0))
 
 -- ---- at most four
 abbrev pub Four : Model → Type 0
@@ -181,11 +185,11 @@ four-arrived peer id b (some y) h e other = go (both (eqb other peer)) (find pee
         (omega (arith, leb-false 4 (tally (isOf peer) b) spare, tally-keep (isOf peer) (λ (z : Entry). not (isAt peer id z)) b)))
     go (inr a) o w = rw a (four-keep (λ (z : Entry). not (isAt peer id z)) b h other)
 
-pub four-step : (shape : Shape) (b : Model) (act : Act) → Four b → Four (acted shape b act)
+pub four-step : (shape : Shape) (b : Clocked) (act : Act) → Four (b .model) → Four (acted shape b act .model)
 four-step shape b (arrive peer c now-ms) h =
-    arrives-keeps shape b peer c now-ms Four h (λ e.
-    four-arrived peer (c .request-id) b (judged shape (touchedAt (find peer (c .request-id) b) now-ms) c .left) h e)
-four-step shape b (cancel peer id) h = four-keep (λ (e : Entry). not (isAt peer id e)) b h
-four-step shape b (drop peer) h = four-keep (λ (e : Entry). not (isOf peer e)) b h
-four-step shape b (poll now-ms) h = four-keep (λ (e : Entry). not (isLate now-ms e)) b h
+    arrives-keeps shape b peer c now-ms Four h
+    (λ e. four-arrived peer (c .request-id) (b .model) (judged shape (reachedOpen shape b peer c now-ms) c .left) h e)
+four-step shape b (cancel peer id) h = four-keep (λ (e : Entry). not (isAt peer id e)) (b .model) h
+four-step shape b (drop peer) h = four-keep (λ (e : Entry). not (isOf peer e)) (b .model) h
+four-step shape b (poll now-ms) h = four-keep (λ (e : Entry). not (isLate now-ms e)) (b .model) h
 four-step shape b nothing h = h

@@ -10,8 +10,7 @@ use borrow.Author.Tests.{eqb-true}
 use lib.Dec.{eqb}
 use lib.ListN.{length}
 use Rattle.seven_bit.proofs.ReplyLaws.{both}
-use Rattle.pe_reassembler.specs.Open.{Perm, empty, skip, swap, then}
-use Rattle.pe_run.specs.Lists.{keep, tally, memb, different}
+use Rattle.pe_run.specs.Lists.{keep, tally, memb, different, Perm, empty, skip, swap, then}
 use Rattle.pe_run.proofs.ListLaws.{eqb-sym, or-false-left, or-false-right, All, Distinct}
 
 module _ {A : Type 0} where

@@ -9,8 +9,7 @@ use borrow.Author.Tests.{leb-true, leb-false, le-leb, eqb-false}
 use lib.Dec.{leb, eqb}
 use lib.ListN.{length}
 use Rattle.pe_slot.specs.Slot.{Piece, held, bodyLen, insert, inOrder}
-use Rattle.pe_reassembler.specs.Open.{Perm, empty, skip, swap, then}
-use Rattle.pe_run.specs.Lists.{memb}
+use Rattle.pe_run.specs.Lists.{memb, Perm, empty, skip, swap, then}
 use Rattle.pe_run.proofs.ListLaws.{eqb-sym, or-false-left, All, Distinct}
 use Rattle.pe_run.proofs.PermLaws.{perm-map, perm-distinct}
 

@@ -10,9 +10,8 @@ use borrow.Author.Tests.{eqb-true}
 use lib.Dec.{eqb}
 use lib.ListN.{length, replicate, length-replicate}
 use Rattle.seven_bit.proofs.ReplyLaws.{and-told}
-use Rattle.pe_reassembler.specs.Open.{Perm, empty, then}
-use Rattle.pe_run.specs.Lists.{keep, tally}
-use Rattle.pe_run.specs.Model.{Open, Entry, Model, isAt, isOf, find, isNone, openOf, peerOf, peersOpen, entryOf, without}
+use Rattle.pe_run.specs.Lists.{keep, tally, Perm, empty, then}
+use Rattle.pe_run.specs.Model.{Open, Entry, Model, Clocked, clocked, start, isAt, isOf, find, isNone, openOf, peerOf, peersOpen, entryOf, without}
 use Rattle.pe_run.proofs.ListLaws.{eqb-self, All, NoneOf, keep-append, tally-append}
 use Rattle.pe_run.proofs.PermLaws.{perm-refl, perm-sym, perm-map, perm-keep, perm-tally, perm-different, perm-append-left, perm-middle}
 use Rattle.pe_run.proofs.ModelLaws.{key, find-append, without-none, Unique, perm-find, perm-unique, unique-arrived, Four}
@@ -23,24 +22,25 @@ use Rattle.pe_run.proofs.Records.{Away, away-tally, away-find, away-dro
 abbrev pub FourCells : Rec → Type 0
 FourCells r = length (r .cells) ≡ 4
 
-pub record Rel (n : ℕ) (v : Value) (b : Model) : Type 0 where
+pub record Rel (n : ℕ) (v : Value) (b : Clocked) : Type 0 where
   pub size : length (v .recs) ≡ n
   pub fours : All FourCells (v .recs)
   pub tidy : Tidy (v .recs)
-  pub same : Perm (opens v) b
-  pub unique : Unique b
+  pub clock-is : v .clock ≡ b .clock
+  pub same : Perm (opens v) (b .model)
+  pub unique : Unique (b .model)
 
-module _ {n : ℕ} {v : Value} {b : Model} (rel : Rel n v b) where
-  pub tally-is : (peer : ℕ) → openOf peer b ≡ tally (isOf peer) (opens v)
+module _ {n : ℕ} {v : Value} {b : Clocked} (rel : Rel n v b) where
+  pub tally-is : (peer : ℕ) → openOf peer (b .model) ≡ tally (isOf peer) (opens v)
   tally-is peer = sym (perm-tally (isOf peer) (rel .same))
 
-  pub find-is : (peer id : ℕ) → find peer id b ≡ find peer id (opens v)
+  pub find-is : (peer id : ℕ) → find peer id (b .model) ≡ find peer id (opens v)
   find-is peer id = sym (perm-find peer id (rel .same) (perm-unique (perm-sym (rel .same)) (rel .unique)))
 
-  pub peers-are : peersOpen b ≡ tally isBusy (v .recs)
+  pub peers-are : peersOpen (b .model) ≡ tally isBusy (v .recs)
   peers-are = sym (perm-different (perm-map peerOf (rel .same))) ∙ peers-recs (v .recs) (rel .tidy)
 
-  pub four-open : Four b → (peer : ℕ) → tally (isOf peer) (opens v) ≤ 4
+  pub four-open : Four (b .model) → (peer : ℕ) → tally (isOf peer) (opens v) ≤ 4
   four-open h peer = subst (λ (k : ℕ). k ≤ 4) (tally-is peer) (h peer)
 
 -- ---- a table that is just made
@@ -56,8 +56,9 @@ fresh-tidy : (n : ℕ) → Tidy (replicate n noRec)
 fresh-tidy zero = tt
 fresh-tidy (suc n) = (λ e. refl, λ e. absurd (false≢true e), fresh-tidy n)
 
-pub fresh-rel : (n : ℕ) → Rel n (record { clock = 1; recs = replicate n noRec }) []
-fresh-rel n = record { size = length-replicate n noRec; fours = fresh-fours n; tidy = fresh-tidy n; same = rw (fresh-open n) empty; unique = tt }
+pub fresh-rel : (n : ℕ) → Rel n (record { clock = 1; recs = replicate n noRec }) start
+fresh-rel n =
+    record { size = length-replicate n noRec; fours = fresh-fours n; tidy = fresh-tidy n; clock-is = refl; same = rw (fresh-open n) empty; unique = tt }
 
 -- ---- a peer's own record
 module _ (peer : ℕ) {recs : List Rec} (tidy : Tidy recs) (s : Split (isOwn peer) recs) where
@@ -156,18 +157,20 @@ module _ {recs : List Rec} {test : Rec → Bool} (s : Split test recs) {taken : 
       here = ap (λ (cells : List Cell). s .before ++ withCells (s .hit) cells ∷ s .after) (sym (u .parts)) ∙ sym (s .parts)
 
 -- changed, against the model with what is left open there
-pub put-rel : {n : ℕ} {v : Value} {b : Model} → Rel n v b
+pub put-rel : {n : ℕ} {v : Value} {b : Clocked} → Rel n v b
     → {test : Rec → Bool} (s : Split test (v .recs)) {taken : Cell → Bool} (u : Split taken (s .hit .cells))
-    → (clock peer id : ℕ) (o : Option Open) → Apart peer (s .before) → Apart peer (s .after) → Perm (rest s u peer) (without peer id b)
+    → (clock peer id : ℕ) (o : Option Open) → Apart peer (s .before) → Apart peer (s .after) → Perm (rest s u peer) (without peer id (b .model))
     → (cell : Cell) → cellOpen peer cell ≡ entryOf peer id o
-    → Rel n (record { clock = clock; recs = putCell s u true peer cell }) (entryOf peer id o ++ without peer id b)
-put-rel {n} {v} {b} rel s u clock peer id o before behind p cell q = record {
+    → {clock′ : ℕ} → clock ≡ clock′
+    → Rel n (record { clock = clock; recs = putCell s u true peer cell }) (clocked clock′ (entryOf peer id o ++ without peer id (b .model)))
+put-rel {n} {v} {b} rel s u clock peer id o before behind p cell q ticks = record {
   size = split-length s changed ∙ rel .size;
   fours = split-all s FourCells changed (rel .fours) (split-length u cell ∙ split-hit s FourCells (rel .fours));
   tidy = tidy-bind peer (s .before) (s .hit) (s .after) (u .before ++ cell ∷ u .after) (subst Tidy (s .parts) (rel .tidy)) before behind;
+  clock-is = ticks;
   same = then (put-open s u true peer cell)
-      (subst (λ (l : Model). Perm (l ++ rest s u peer) (entryOf peer id o ++ without peer id b)) (sym q) (perm-append-left (entryOf peer id o) p));
-  unique = unique-arrived peer id b o (rel .unique);
+      (subst (λ (l : Model). Perm (l ++ rest s u peer) (entryOf peer id o ++ without peer id (b .model))) (sym q) (perm-append-left (entryOf peer id o) p));
+  unique = unique-arrived peer id (b .model) o (rel .unique);
 }
   where
     changed : Rec
@@ -183,25 +186,26 @@ take-out peer id e l b p u h = subst (λ (k : Model). Perm k (without peer id b)
     gone : without peer id (e ∷ l) ≡ l
     gone = rw h (without-none peer id l once)
 
-pub own-open : {n : ℕ} {v : Value} {b : Model} → Rel n v b → (peer id : ℕ) (s : Split (isOwn peer) (v .recs)) (u : Split (hasId id) (s .hit .cells))
-    → (x : Open) × (u .hit .state ≡ some x) × (find peer id b ≡ some x) × Perm (rest s u peer) (without peer id b)
+pub own-open : {n : ℕ} {v : Value} {b : Clocked} → Rel n v b → (peer id : ℕ) (s : Split (isOwn peer) (v .recs)) (u : Split (hasId id) (s .hit .cells))
+    → (x : Open) × (u .hit .state ≡ some x) × (find peer id (b .model) ≡ some x) × Perm (rest s u peer) (without peer id (b .model))
 own-open {n} {v} {b} rel peer id s u = go (u .hit .state) refl
   where
     own : Perm (opens v) (cellOpen peer (u .hit) ++ rest s u peer)
     own = subst (λ (muid : ℕ). Perm (opens v) (cellOpen muid (u .hit) ++ rest s u muid)) (sym (own-muid peer (rel .tidy) s)) (here-open s u)
 
-    go : (o : Option Open) → u .hit .state ≡ o → (x : Open) × (u .hit .state ≡ some x) × (find peer id b ≡ some x) × Perm (rest s u peer) (without peer id b)
+    go : (o : Option Open) → u .hit .state ≡ o
+        → (x : Open) × (u .hit .state ≡ some x) × (find peer id (b .model) ≡ some x) × Perm (rest s u peer) (without peer id (b .model))
     go none e = absurd (false≢true (subst (λ (o : Option Open). (not (isNone o) && eqb id (u .hit .request-id)) ≡ true) e (u .passes)))
-    go (some x) e = (x, e, found, take-out peer id entry (rest s u peer) b perm (rel .unique) is-at)
+    go (some x) e = (x, e, found, take-out peer id entry (rest s u peer) (b .model) perm (rel .unique) is-at)
       where
         entry : Entry
         entry = record { peer = peer; request-id = u .hit .request-id; state = x }
 
-        perm : Perm (entry ∷ rest s u peer) b
+        perm : Perm (entry ∷ rest s u peer) (b .model)
         perm = then (perm-sym (subst (λ (o : Option Open). Perm (opens v) (entryOf peer (u .hit .request-id) o ++ rest s u peer)) e own)) (rel .same)
 
         is-at : isAt peer id entry ≡ true
         is-at = rw (eqb-self peer) (and-told (isUsed (u .hit)) (eqb id (u .hit .request-id)) (u .passes) .1)
 
-        found : find peer id b ≡ some x
+        found : find peer id (b .model) ≡ some x
         found = sym (perm-find peer id perm (perm-unique (perm-sym perm) (rel .unique))) ∙ rw is-at

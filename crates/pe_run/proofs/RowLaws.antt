@@ -8,15 +8,15 @@ use native.Mathlib.Numerals.{add-one}
 use native.Mathlib.Omega.{arith}
 use lib.Dec.{leb}
 use lib.ListN.{length, getD}
-use Rattle.pe_slot.specs.Layout.{requestIdAt, indexLenAt}
+use Rattle.pe_slot.specs.Layout.{requestIdAt, lruTickAt, indexLenAt}
 use Rattle.pe_reassembler.specs.declared.shape.Shape.{Shape}
 use Rattle.pe_reassembler.specs.Table.{slotAt, isActive, rowsFrom}
-use Rattle.pe_reassembler.specs.Open.{shownAt, openSlots}
+use Rattle.pe_reassembler.specs.Open.{Shown, shownAt, openSlots}
 use Rattle.pe_reassembler.specs.Poll.{Timeout, isDue, timeoutOf, dueFrom}
 use Rattle.pe_reassembler.proofs.SoundLaws.{SlotsSound}
 use Rattle.pe_run.specs.Lists.{keep}
 use Rattle.pe_run.specs.Model.{Entry, Model, isLate}
-use Rattle.pe_run.specs.Calls.{Key, keyOf, shownOf}
+use Rattle.pe_run.specs.Calls.{dueOf, shownOf}
 use Rattle.pe_run.specs.Run.{Table, LongFor}
 use Rattle.pe_run.proofs.Value.{cellAt, recAt, recsFrom, valueOf, cellOpen, recsOpen, opens}
 use Rattle.pe_run.proofs.CellLaws.{peerIn, entryAt, cell-open, entry-held}
@@ -33,21 +33,6 @@ module _ {A : Type 0} (test : ℕ → ℕ → Bool) (row : ℕ → ℕ → A) wh
   rows-four p k =
       let e : 4 * suc k ≡ suc (suc (suc (suc (4 * k)))) = omega arith in
       rw (e, ← add-one p)
-
-  rows-mapped : {B : Type 0} (f : A → B) (p s k : ℕ) → map f (rowsFrom test row p s k) ≡ rowsFrom test (λ (i j : ℕ). f (row i j)) p s k
-  unfolding rowsFrom
-  rows-mapped {B} f p s zero = refl
-  rows-mapped {B} f p s (suc k) =
-      map-append f (rowOf p s) _
-      ∙ ap₂ (λ (xs ys : List B). xs ++ ys) (one (test p s)) (go (leb 3 s) _ _ (rows-mapped f (p + 1) 0 k) (rows-mapped f p (s + 1) k))
-    where
-      one : (b : Bool) → map f (cond b (row p s ∷ []) []) ≡ cond b (f (row p s) ∷ []) []
-      one true = refl
-      one false = refl
-
-      go : (b : Bool) (x y : List A) {x′ y′ : List B} → map f x ≡ x′ → map f y ≡ y′ → map f (cond b x y) ≡ cond b x′ y′
-      go true x y e e′ = e
-      go false x y e e′ = e′
 
 -- what is shown of a model entry by entry: by each slot, and so by all of them
 module _ {A : Type 0} (g : Model → List A) (none-shown : g [] ≡ []) (both-shown : (xs ys : Model) → g (xs ++ ys) ≡ g xs ++ g ys) (shape : Shape) (t : Table)
@@ -85,33 +70,38 @@ open-rows shape t long sound =
     rows-by (λ (b : Model). map shownOf b) refl (map-append shownOf) shape t (isActive (t .numbers)) (shownAt (t .numbers))
     (λ p s h k. one p s (isActive (t .numbers) p s) (entry-held shape t long p s h k (sound .each p s h k)))
   where
+    with-held : ℕ → ℕ → ℕ → Shown
+    with-held p s k =
+        record {
+          tick = getD (t .numbers) (slotAt p s + lruTickAt) 0;
+          peer = peerIn t p;
+          request-id = getD (t .numbers) (slotAt p s + requestIdAt) 0;
+          held = k;
+        }
+
     one : (p s : ℕ) (b : Bool) → length (entryAt shape t p s .state .slot .pieces) ≡ getD (t .numbers) (slotAt p s + indexLenAt) 0
         → cond b (shownAt (t .numbers) p s ∷ []) [] ≡ map shownOf (cond b (entryAt shape t p s ∷ []) [])
-    one p s true e = ap (λ (k : ℕ). record { peer = peerIn t p; request-id = getD (t .numbers) (slotAt p s + requestIdAt) 0; held = k } ∷ []) (sym e)
+    one p s true e = ap (λ (k : ℕ). with-held p s k ∷ []) (sym e)
     one p s false e = refl
 
 -- ---- those whose time is up
-abbrev pub keyT : Timeout → Key
-keyT t = record { peer = t .peer; request-id = t .request-id }
-
-abbrev lateKeys : ℕ → Model → List Key
-lateKeys now-ms b = map keyOf (keep (isLate now-ms) b)
+abbrev lateRows : ℕ → Model → List Timeout
+lateRows now-ms b = map dueOf (keep (isLate now-ms) b)
 
 pub due-rows : (shape : Shape) (t : Table) (now-ms : ℕ)
-    → map keyT (dueFrom (t .numbers) now-ms 0 0 (4 * shape .«max_peers»)) ≡ map keyOf (keep (isLate now-ms) (opens (valueOf shape t)))
+    → dueFrom (t .numbers) now-ms 0 0 (4 * shape .«max_peers») ≡ map dueOf (keep (isLate now-ms) (opens (valueOf shape t)))
 unfolding isDue
 due-rows shape t now-ms =
-    rows-mapped (isDue (t .numbers) now-ms) (timeoutOf (t .numbers)) keyT 0 0 (4 * shape .«max_peers»)
-    ∙ rows-by (lateKeys now-ms) refl split shape t (isDue (t .numbers) now-ms) (λ (p s : ℕ). keyT (timeoutOf (t .numbers) p s))
+    rows-by (lateRows now-ms) refl split shape t (isDue (t .numbers) now-ms) (timeoutOf (t .numbers))
     (λ p s h k. one (entryAt shape t p s) (isActive (t .numbers) p s))
   where
-    split : (xs ys : Model) → lateKeys now-ms (xs ++ ys) ≡ lateKeys now-ms xs ++ lateKeys now-ms ys
-    split xs ys = ap (map keyOf) (keep-append (isLate now-ms) xs ys) ∙ map-append keyOf (keep (isLate now-ms) xs) (keep (isLate now-ms) ys)
+    split : (xs ys : Model) → lateRows now-ms (xs ++ ys) ≡ lateRows now-ms xs ++ lateRows now-ms ys
+    split xs ys = ap (map dueOf) (keep-append (isLate now-ms) xs ys) ∙ map-append dueOf (keep (isLate now-ms) xs) (keep (isLate now-ms) ys)
 
-    row : (e : Entry) (late : Bool) → cond late (keyOf e ∷ []) [] ≡ map keyOf (cond late (e ∷ []) [])
+    row : (e : Entry) (late : Bool) → cond late (dueOf e ∷ []) [] ≡ map dueOf (cond late (e ∷ []) [])
     row e true = refl
     row e false = refl
 
-    one : (e : Entry) (b : Bool) → cond (b && isLate now-ms e) (keyOf e ∷ []) [] ≡ lateKeys now-ms (cond b (e ∷ []) [])
+    one : (e : Entry) (b : Bool) → cond (b && isLate now-ms e) (dueOf e ∷ []) [] ≡ lateRows now-ms (cond b (e ∷ []) [])
     one e true = row e (isLate now-ms e)
     one e false = refl

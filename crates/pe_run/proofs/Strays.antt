@@ -12,16 +12,17 @@ use Rattle.pe_frame.specs.Chunk.{Chunk, Fields, withinCount, readFields, chunkO
 use Rattle.pe_frame.proofs.RoundTrip.{read-told}
 use Rattle.pe_slot.specs.Slot.{Verdict, allWithin, judge, slotAfter}
 use Rattle.pe_slot.proofs.WithinLaws.{all-within, none-yet}
+use Rattle.pe_reassembler.specs.Feed.{nextTick}
 use Rattle.pe_reassembler.specs.declared.shape.Shape.{Shape}
 use Rattle.pe_reassembler.specs.Table.{isMuid}
 use Rattle.pe_run.specs.Lists.{keep}
-use Rattle.pe_run.specs.Model.{Open, Entry, Model, isAt, isOf, isLate, find, touchedAt, judged, entryOf, without, acted}
+use Rattle.pe_run.specs.Model.{Open, Entry, Model, Clocked, start, isAt, isOf, isLate, find, touchedAt, judged, entryOf, without, acted}
 use Rattle.pe_run.specs.Model.{Act, arrive, cancel, drop, poll, nothing}
 use Rattle.pe_run.specs.Calls.{Call, feed, feed-message, cancel as cancel-call, drop-peer, poll as poll-call, memory-stats, reserved-bytes, open-list}
 use Rattle.pe_run.specs.Calls.{Arrival, arrival, arriving, hasOutputs, hasPlaces, fedArrival, messageArrival}
 use Rattle.pe_run.specs.Calls.{arrivalAct, grantedOf, actOf, modelFrom, modelAfter}
 use Rattle.pe_run.proofs.ListLaws.{All, all-append}
-use Rattle.pe_run.proofs.ModelLaws.{arrives-keeps}
+use Rattle.pe_run.proofs.ModelLaws.{reachedOpen, arrives-keeps}
 
 -- each open slot's numbers are within its count
 abbrev pub NoStrays : Model → Type 0
@@ -36,12 +37,12 @@ kept test (e ∷ b) a = go (test e) (kept test b (a .1))
     go false r = r
 
 -- the slot that a chunk reaches
-reached : (peer id now-ms : ℕ) (b : Model) → NoStrays b → allWithin (touchedAt (find peer id b) now-ms .slot) ≡ true
-reached peer id now-ms [] a = none-yet
-reached peer id now-ms (e ∷ b) a = go (isAt peer id e) (reached peer id now-ms b (a .1))
+reached : (peer id now-ms tick : ℕ) (b : Model) → NoStrays b → allWithin (touchedAt (find peer id b) now-ms tick .slot) ≡ true
+reached peer id now-ms tick [] a = none-yet
+reached peer id now-ms tick (e ∷ b) a = go (isAt peer id e) (reached peer id now-ms tick b (a .1))
   where
-    go : (t : Bool) → allWithin (touchedAt (find peer id b) now-ms .slot) ≡ true
-        → allWithin (touchedAt (cond t (some (e .state)) (find peer id b)) now-ms .slot) ≡ true
+    go : (t : Bool) → allWithin (touchedAt (find peer id b) now-ms tick .slot) ≡ true
+        → allWithin (touchedAt (cond t (some (e .state)) (find peer id b)) now-ms tick .slot) ≡ true
     go true r = a .0
     go false r = r
 
@@ -55,7 +56,7 @@ left shape peer id o c w a = go (v .closes) (all-within (o .slot) c w a (shape .
     v = judge (shape .«header_bytes») (shape .«tx_bytes») (shape .«fragment_records») (o .slot) c
 
     go : (t : Bool) → allWithin (slotAfter (o .slot) c v) ≡ true
-        → NoStrays (entryOf peer id (cond t none (some (record { time = o .time; slot = slotAfter (o .slot) c v }))))
+        → NoStrays (entryOf peer id (cond t none (some (record { time = o .time; tick = o .tick; slot = slotAfter (o .slot) c v }))))
     go true r = tt
     go false r = (r, tt)
 
@@ -67,15 +68,15 @@ Read (drop peer) = Unit {0}
 Read (poll now-ms) = Unit {0}
 Read nothing = Unit {0}
 
-step-none : (shape : Shape) (b : Model) (act : Act) → Read act → NoStrays b → NoStrays (acted shape b act)
+step-none : (shape : Shape) (b : Clocked) (act : Act) → Read act → NoStrays (b .model) → NoStrays (acted shape b act .model)
 step-none shape b (arrive peer c now-ms) w a =
     arrives-keeps shape b peer c now-ms NoStrays a (λ e.
-    all-append _ (entryOf peer (c .request-id) (judged shape (touchedAt (find peer (c .request-id) b) now-ms) c .left)) (without peer (c .request-id) b)
-    (left shape peer (c .request-id) (touchedAt (find peer (c .request-id) b) now-ms) c w (reached peer (c .request-id) now-ms b a))
-    (kept (λ (y : Entry). not (isAt peer (c .request-id) y)) b a))
-step-none shape b (cancel peer id) w a = kept (λ (e : Entry). not (isAt peer id e)) b a
-step-none shape b (drop peer) w a = kept (λ (e : Entry). not (isOf peer e)) b a
-step-none shape b (poll now-ms) w a = kept (λ (e : Entry). not (isLate now-ms e)) b a
+    all-append _ (entryOf peer (c .request-id) (judged shape (reachedOpen shape b peer c now-ms) c .left)) (without peer (c .request-id) (b .model))
+    (left shape peer (c .request-id) (reachedOpen shape b peer c now-ms) c w (reached peer (c .request-id) now-ms (nextTick (b .clock)) (b .model) a))
+    (kept (λ (y : Entry). not (isAt peer (c .request-id) y)) (b .model) a))
+step-none shape b (cancel peer id) w a = kept (λ (e : Entry). not (isAt peer id e)) (b .model) a
+step-none shape b (drop peer) w a = kept (λ (e : Entry). not (isOf peer e)) (b .model) a
+step-none shape b (poll now-ms) w a = kept (λ (e : Entry). not (isLate now-ms e)) (b .model) a
 step-none shape b nothing w a = a
 
 -- the acts of calls are such
@@ -116,10 +117,10 @@ act-read shape memory-stats = tt
 act-read shape reserved-bytes = tt
 act-read shape (open-list out-peers out-ids out-held) = tt
 
-from : (shape : Shape) (b : Model) (calls : List Call) → NoStrays b → NoStrays (modelFrom shape b calls)
+from : (shape : Shape) (b : Clocked) (calls : List Call) → NoStrays (b .model) → NoStrays (modelFrom shape b calls .model)
 from shape b [] a = a
 from shape b (c ∷ calls) a = from shape (acted shape b (actOf shape c)) calls (step-none shape b (actOf shape c) (act-read shape c) a)
 
 -- Whatever is called, on a table of any shape: no open slot holds a number above its count.
-pub no-strays : (shape : Shape) (calls : List Call) → NoStrays (modelAfter shape calls)
-no-strays shape calls = from shape [] calls tt
+pub no-strays : (shape : Shape) (calls : List Call) → NoStrays (modelAfter shape calls .model)
+no-strays shape calls = from shape start calls tt

@@ -8,9 +8,9 @@ use native.Mathlib.Omega.{arith}
 use lib.ListN.{length, length-append}
 use Rattle.pe_reassembler.specs.declared.shape.Shape.{Shape}
 use Rattle.pe_reassembler.specs.Table.{isActive}
-use Rattle.pe_reassembler.specs.Open.{Perm}
 use Rattle.pe_reassembler.specs.Calls.{openCount, slotBytes, overSlots}
 use Rattle.pe_reassembler.proofs.SoundLaws.{SlotsSound}
+use Rattle.pe_run.specs.Lists.{Perm}
 use Rattle.pe_run.specs.Model.{Entry, Model}
 use Rattle.pe_run.specs.Calls.{entryBytes, bytesOpen}
 use Rattle.pe_run.specs.Run.{Table, LongFor}

@@ -33,15 +33,16 @@ record Passes (s : Slot) (c : Chunk) : Type 0 where
   few : ltb (length (s .pieces)) 2048 ≡ true
   roomy : leb (bodyLen (s .pieces) + length (c .property)) 65536 ≡ true
 
-abbrev pub openAt : ℕ → Slot → Open
-openAt time s = record { time = time; slot = s }
+abbrev pub openAt : ℕ → ℕ → Slot → Open
+openAt time tick s = record { time = time; tick = tick; slot = s }
 
 abbrev pub judgedTo : Option Open → Event → Judged
 judgedTo left event = record { left = left; answer = granted event }
 
 -- whole and closed, or waiting
-abbrev pub settled : ℕ → Slot → Judged
-settled time s = judgedTo (cond (isWhole (s .header) (s .count) (s .pieces)) none (some (openAt time s))) (eventOf (s .header) (s .count) (s .pieces))
+abbrev pub settled : ℕ → ℕ → Slot → Judged
+settled time tick s =
+    judgedTo (cond (isWhole (s .header) (s .count) (s .pieces)) none (some (openAt time tick s))) (eventOf (s .header) (s .count) (s .pieces))
 
 -- the verdict of a chunk that leaves the slot s′
 abbrev passing : Slot → Chunk → Slot → Verdict
@@ -58,11 +59,11 @@ judge-passed : (s : Slot) (c : Chunk) → Passes s c → judge 4096 65536 2048 s
 unfolding judge passed
 judge-passed s c k = rw (k .fits, k .agrees, k .counts, k .named, k .fresh, k .few, k .roomy) refl
 
-judged-passed : (n time : ℕ) (s : Slot) (c : Chunk) → Passes s c
-    → judged (fullSize n) (openAt time s) c ≡ settled time (afterChunk s c (newHeader s c) (newCount s c) true)
+judged-passed : (n time tick : ℕ) (s : Slot) (c : Chunk) → Passes s c
+    → judged (fullSize n) (openAt time tick s) c ≡ settled time tick (afterChunk s c (newHeader s c) (newCount s c) true)
 unfolding judged
-judged-passed n time s c k =
-    ap (λ (v : Verdict). record { left = cond (v .closes) none (some (openAt time (slotAfter s c v))); answer = v .answer }) (judge-passed s c k)
+judged-passed n time tick s c k =
+    ap (λ (v : Verdict). record { left = cond (v .closes) none (some (openAt time tick (slotAfter s c v))); answer = v .answer }) (judge-passed s c k)
 
 -- ---- a slot that holds chunks of a list: its header is there if number 1 is
 abbrev headerWith : List ℕ → List Chunk → Option (List ℕ)
@@ -179,28 +180,30 @@ module _ {n : ℕ} {header body : List ℕ} (held-now : List Chunk) (c : Chunk) 
   after-held count k = rw (after-header, after-count count k, map-append pieceIn held-now (c ∷ [])) refl
 
   -- A chunk of the list is taken: nothing refuses it.
-  pub judged-good : (peers time count : ℕ) → (eqb count 0 || eqb count n) ≡ true
-      → judged (fullSize peers) (openAt time (slotWith header count held-now)) c ≡ settled time (slotWith header n (held-now ++ (c ∷ [])))
-  judged-good peers time count k = judged-passed peers time (slotWith header count held-now) c (passes count k) ∙ ap (settled time) (after-held count k)
+  pub judged-good : (peers time tick count : ℕ) → (eqb count 0 || eqb count n) ≡ true
+      → judged (fullSize peers) (openAt time tick (slotWith header count held-now)) c ≡ settled time tick (slotWith header n (held-now ++ (c ∷ [])))
+  judged-good peers time tick count k =
+      judged-passed peers time tick (slotWith header count held-now) c (passes count k) ∙ ap (settled time tick) (after-held count k)
 
   -- While one is missing the slot waits.
-  pub settled-wait : (time : ℕ) → settled time (slotWith header n held-now) ≡ judgedTo (some (openAt time (slotWith header n held-now))) waiting
+  pub settled-wait : (time tick : ℕ)
+      → settled time tick (slotWith header n held-now) ≡ judgedTo (some (openAt time tick (slotWith header n held-now))) waiting
   unfolding isWhole eventOf
-  settled-wait time = go (headerWith header held-now)
+  settled-wait time tick = go (headerWith header held-now)
     where
       missing : allHeld n (piecesIn held-now) ≡ false
       missing = all-no (c .chunk-num) n (piecesIn held-now) (of .low) (of .high) not-held
 
       go : (h : Option (List ℕ))
-          → judgedTo (cond (isWhole h n (piecesIn held-now)) none (some (openAt time (slotWith header n held-now)))) (eventOf h n (piecesIn held-now))
-          ≡ judgedTo (some (openAt time (slotWith header n held-now))) waiting
+          → judgedTo (cond (isWhole h n (piecesIn held-now)) none (some (openAt time tick (slotWith header n held-now)))) (eventOf h n (piecesIn held-now))
+          ≡ judgedTo (some (openAt time tick (slotWith header n held-now))) waiting
       go none = refl
       go (some h) = rw (ne-eqb n 0 (omega (arith, g .some-chunks)), missing) refl
 
 -- With all of them the list is whole, and the slot closes.
-pub settled-last : {n : ℕ} {header body : List ℕ} {cs : List Chunk} (time : ℕ) → Good header body n cs
-    → settled time (slotWith header n cs) ≡ judgedTo none (whole header body)
+pub settled-last : {n : ℕ} {header body : List ℕ} {cs : List Chunk} (time tick : ℕ) → Good header body n cs
+    → settled time tick (slotWith header n cs) ≡ judgedTo none (whole header body)
 unfolding isWhole eventOf
-settled-last {n} {header} {body} {cs} time g =
+settled-last {n} {header} {body} {cs} time tick g =
     let all : allHeld n (piecesIn cs) ≡ true = all-yes n (piecesIn cs) (λ k a b. held-memb k (piecesIn cs) ∙ g .held k a b) in
     rw (g .held 1 (omega arith) (g .some-chunks), ne-eqb n 0 (omega (arith, g .some-chunks)), all, g .body-is) refl

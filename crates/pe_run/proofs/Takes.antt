@@ -14,10 +14,9 @@ use Rattle.seven_bit.specs.Reply.{refused}
 use Rattle.seven_bit.proofs.ReplyLaws.{both, and-told}
 use Rattle.pe_frame.specs.Chunk.{Chunk}
 use Rattle.pe_reassembler.specs.declared.shape.Shape.{Shape}
-use Rattle.pe_reassembler.specs.Open.{Perm, then}
 use Rattle.pe_reassembler.specs.Feed.{nextTick}
-use Rattle.pe_run.specs.Lists.{tally}
-use Rattle.pe_run.specs.Model.{Open, Model, find, isNone, openOf, peersOpen, findsRecord, hasFour, touchedAt, Judged, judged, entryOf, without, Arrived, arrived, arrives}
+use Rattle.pe_run.specs.Lists.{tally, Perm, then}
+use Rattle.pe_run.specs.Model.{Open, Model, Clocked, find, isNone, openOf, peersOpen, findsRecord, hasFour, touchedAt, Judged, judged, entryOf, without, Arrived, arrived, arrives}
 use Rattle.pe_run.specs.Demand.{Room}
 use Rattle.pe_run.proofs.ListLaws.{NoneOf, all-first, all-second, tally-all}
 use Rattle.pe_run.proofs.PermLaws.{perm-sym}
@@ -29,29 +28,29 @@ use Rattle.pe_run.proofs.Records.{away-tally, away-find, free-none, fre
 use Rattle.pe_run.proofs.Refine.{FourCells, Rel, tally-is, find-is, peers-are, own-muid, own-after, own-find, own-tally, rest, putCell, here-open, put-rel, own-open}
 
 -- ---- does the peer find a record?
-finds-idle : {n : ℕ} {v : Value} {b : Model} → Rel n v b → (peer : ℕ) {test : Rec → Bool} (s : Split test (v .recs)) → isIdle (s .hit) ≡ true
-    → findsRecord n peer b ≡ true
-finds-idle {n} {v} {b} rel peer s h = finds-fewer n peer b (omega (arith, peers-are rel, split-short s isBusy (rw h), rel .size))
+finds-idle : {n : ℕ} {v : Value} {b : Clocked} → Rel n v b → (peer : ℕ) {test : Rec → Bool} (s : Split test (v .recs)) → isIdle (s .hit) ≡ true
+    → findsRecord n peer (b .model) ≡ true
+finds-idle {n} {v} {b} rel peer s h = finds-fewer n peer (b .model) (omega (arith, peers-are rel, split-short s isBusy (rw h), rel .size))
 
 -- the two refusals
 finds-none : (n peer : ℕ) (b : Model) → openOf peer b ≡ 0 → n ≤ peersOpen b → findsRecord n peer b ≡ false
 unfolding findsRecord
 finds-none n peer b e h = ap₂ (λ (k : ℕ) (fewer : Bool). not (eqb k 0) || fewer) e (le-ltb (peersOpen b) n h)
 
-arrive-full : (shape : Shape) (peer : ℕ) (b : Model) (c : Chunk) (now-ms : ℕ) → openOf peer b ≡ 0 → shape .«max_peers» ≤ peersOpen b
-    → arrives shape b peer c now-ms ≡ record { model = b; answer = refused 7 0 }
+arrive-full : (shape : Shape) (peer : ℕ) (b : Clocked) (c : Chunk) (now-ms : ℕ) → openOf peer (b .model) ≡ 0 → shape .«max_peers» ≤ peersOpen (b .model)
+    → arrives shape b peer c now-ms ≡ record { left = b; answer = refused 7 0 }
 unfolding arrives
-arrive-full shape peer b c now-ms e h = rw (finds-none (shape .«max_peers») peer b e h) refl
+arrive-full shape peer b c now-ms e h = rw (finds-none (shape .«max_peers») peer (b .model) e h) refl
 
 has-four : (peer request-id : ℕ) (b : Model) → 4 ≤ openOf peer b → find peer request-id b ≡ none → hasFour peer request-id b ≡ true
 unfolding hasFour
 has-four peer request-id b h e = ap (λ (o : Option Open). isNone o && leb 4 (openOf peer b)) e ∙ le-leb 4 (openOf peer b) h
 
-arrive-fifth : (shape : Shape) (peer : ℕ) (b : Model) (c : Chunk) (now-ms : ℕ) → 4 ≤ openOf peer b → find peer (c .request-id) b ≡ none
-    → arrives shape b peer c now-ms ≡ record { model = b; answer = refused 6 0 }
+arrive-fifth : (shape : Shape) (peer : ℕ) (b : Clocked) (c : Chunk) (now-ms : ℕ) → 4 ≤ openOf peer (b .model) → find peer (c .request-id) (b .model) ≡ none
+    → arrives shape b peer c now-ms ≡ record { left = b; answer = refused 6 0 }
 unfolding arrives
 arrive-fifth shape peer b c now-ms h e =
-    rw (finds-open (shape .«max_peers») peer b (omega arith), has-four peer (c .request-id) b h e) refl
+    rw (finds-open (shape .«max_peers») peer (b .model) (omega arith), has-four peer (c .request-id) (b .model) h e) refl
 
 -- ---- what the value makes of a chunk
 module _ (shape : Shape) (v : Value) (peer : ℕ) (c : Chunk) (now-ms : ℕ) where
@@ -72,25 +71,29 @@ module _ (shape : Shape) (v : Value) (peer : ℕ) (c : Chunk) (now-ms : ℕ) whe
 
     -- the cell that is chosen gets what is left
     module _ {taken : Cell → Bool} (u : Split taken (s .hit .cells)) where
+      -- with what was open in it
+      abbrev judging : Option Open → Judged
+      judging o = judged shape (touchedAt o now-ms (nextTick (v .clock))) c
+
       abbrev taking : Judged → Taken
       taking j = record {
-        value = record { clock = nextTick (v .clock); recs = putCell s u true peer (cellWith (nextTick (v .clock)) (c .request-id) (j .left)) };
+        value = record { clock = nextTick (v .clock); recs = putCell s u true peer (cellWith (c .request-id) (j .left)) };
         answer = j .answer;
       }
 
       takes-at : chooseCell (c .request-id) (s .hit .cells) ≡ some (length (u .before))
-          → takes shape v peer c now-ms ≡ taking (judged shape (touchedAt (u .hit .state) now-ms) c)
+          → takes shape v peer c now-ms ≡ taking (judging (u .hit .state))
       unfolding takeRec takeCell
       takes-at e =
           takes-in ∙ ap (takeRec shape v peer c now-ms (length (s .before)) (s .hit)) e
-          ∙ ap (λ (cell : Cell). stored (judged shape (touchedAt (cell .state) now-ms) c)) (split-getD u noCell)
-          ∙ there (judged shape (touchedAt (u .hit .state) now-ms) c)
+          ∙ ap (λ (cell : Cell). stored (judging (cell .state))) (split-getD u noCell)
+          ∙ there (judging (u .hit .state))
         where
           bound : List Cell → Rec
           bound cells = record { bound = true; muid = peer; cells = cells }
 
           new : Judged → Cell
-          new j = cellWith (nextTick (v .clock)) (c .request-id) (j .left)
+          new j = cellWith (c .request-id) (j .left)
 
           stored : Judged → Taken
           stored j = record {
@@ -108,12 +111,12 @@ module _ (shape : Shape) (v : Value) (peer : ℕ) (c : Chunk) (now-ms : ℕ) whe
 -- ---- value and model
 -- one answer, and what both leave
 pub record Agrees (n : ℕ) (t : Taken) (a : Arrived) : Type 0 where
-  pub rel : Rel n (t .value) (a .model)
+  pub rel : Rel n (t .value) (a .left)
   pub answer-is : t .answer ≡ a .answer
 
-cell-open : (peer tick id : ℕ) (o : Option Open) → cellOpen peer (cellWith tick id o) ≡ entryOf peer id o
-cell-open peer tick id none = refl
-cell-open peer tick id (some x) = refl
+cell-open : (peer id : ℕ) (o : Option Open) → cellOpen peer (cellWith id o) ≡ entryOf peer id o
+cell-open peer id none = refl
+cell-open peer id (some x) = refl
 
 -- the first cell of a record with nothing open
 idle-split : (cells : List Cell) → every isFree cells ≡ true → length cells ≡ 4
@@ -127,39 +130,46 @@ no-ids : (id : ℕ) (cells : List Cell) → every isFree cells ≡ true → None
 no-ids id [] h = tt
 no-ids id (cell ∷ cells) h = let a = and-told (isFree cell) (every isFree cells) h in (rw (a .0), no-ids id cells (a .1))
 
-module _ (shape : Shape) {v : Value} {b : Model} (rel : Rel (shape .«max_peers») v b) (peer : ℕ) (c : Chunk) (now-ms : ℕ) where
+module _ (shape : Shape) {v : Value} {b : Clocked} (rel : Rel (shape .«max_peers») v b) (peer : ℕ) (c : Chunk) (now-ms : ℕ) where
+  -- one tick above the model's last
+  abbrev judgedBy : ℕ → Option Open → Judged
+  judgedBy clock o = judged shape (touchedAt o now-ms (nextTick clock)) c
+
   abbrev Goal : Type 0
   Goal = Agrees (shape .«max_peers») (takes shape v peer c now-ms) (arrives shape b peer c now-ms)
 
   -- a refusal of both
   refused-both : (number : ℕ) → takes shape v peer c now-ms ≡ record { value = v; answer = refused number 0 }
-      → arrives shape b peer c now-ms ≡ record { model = b; answer = refused number 0 } → Goal
+      → arrives shape b peer c now-ms ≡ record { left = b; answer = refused number 0 } → Goal
   refused-both number e f = rw (e, f) (record { rel = rel; answer-is = refl })
 
   module _ {test : Rec → Bool} (s : Split test (v .recs)) (chosen : choose peer (v .recs) ≡ some (length (s .before)))
       (before : Apart peer (s .before)) (behind : Apart peer (s .after)) where
     -- the chosen cell has what the model has
     judged-both : {taken : Cell → Bool} (u : Split taken (s .hit .cells)) → chooseCell (c .request-id) (s .hit .cells) ≡ some (length (u .before))
-        → Perm (rest s u peer) (without peer (c .request-id) b)
-        → arrives shape b peer c now-ms ≡ arrived peer (c .request-id) b (judged shape (touchedAt (u .hit .state) now-ms) c) → Goal
-    judged-both u e p arr = rw (takes-at shape v peer c now-ms s chosen u e, arr) (record {
+        → Perm (rest s u peer) (without peer (c .request-id) (b .model))
+        → arrives shape b peer c now-ms ≡ arrived peer (c .request-id) b (judgedBy (b .clock) (u .hit .state)) → Goal
+    judged-both u e p arr = rw (
+      takes-at shape v peer c now-ms s chosen u e,
+      arr ∙ ap (λ (clock : ℕ). arrived peer (c .request-id) b (judgedBy clock (u .hit .state))) (sym (rel .clock-is)),
+    ) (record {
       rel = put-rel rel s u (nextTick (v .clock)) peer (c .request-id) left before behind p
-          (cellWith (nextTick (v .clock)) (c .request-id) left) (cell-open peer (nextTick (v .clock)) (c .request-id) left);
+          (cellWith (c .request-id) left) (cell-open peer (c .request-id) left) (ap nextTick (rel .clock-is));
       answer-is = refl;
     })
       where
         left : Option Open
-        left = judged shape (touchedAt (u .hit .state) now-ms) c .left
+        left = judgedBy (v .clock) (u .hit .state) .left
 
     -- a free cell is opened
     open-both : (u : Split isFree (s .hit .cells)) → NoneOf (hasId (c .request-id)) (s .hit .cells)
         → cellsOpen (s .hit .muid) (u .before) ≡ cellsOpen peer (u .before) → cellsOpen (s .hit .muid) (u .after) ≡ cellsOpen peer (u .after)
-        → Room (shape .«max_peers») peer (c .request-id) b → Goal
+        → Room (shape .«max_peers») peer (c .request-id) (b .model) → Goal
     open-both u a same-before same-after room =
         judged-both u (rw (place-absent (hasId (c .request-id)) (s .hit .cells) a) (split-place u))
-        (rw (without-none peer (c .request-id) b (room .not-open)) (then (perm-sym here) (rel .same)))
+        (rw (without-none peer (c .request-id) (b .model) (room .not-open)) (then (perm-sym here) (rel .same)))
         (arrive-new shape peer b c now-ms room
-        ∙ ap (λ (o : Option Open). arrived peer (c .request-id) b (judged shape (touchedAt o now-ms) c)) (sym (free-none (u .hit) (u .passes))))
+        ∙ ap (λ (o : Option Open). arrived peer (c .request-id) b (judgedBy (b .clock) o)) (sym (free-none (u .hit) (u .passes))))
       where
         here : Perm (opens v) (rest s u peer)
         here = subst (λ (l : Model). Perm (opens v) l)
@@ -196,13 +206,13 @@ module _ (shape : Shape) {v : Value} {b : Model} (rel : Rel (shape .«max_peers�
       behind : Apart peer (s .after)
       behind = own-after peer (rel .tidy) s
 
-      used : openOf peer b ≡ tally isUsed (s .hit .cells)
+      used : openOf peer (b .model) ≡ tally isUsed (s .hit .cells)
       used = tally-is rel peer ∙ own-tally peer (rel .tidy) s
 
       four : length (s .hit .cells) ≡ 4
       four = split-hit s FourCells (rel .fours)
 
-      absent : NoneOf (hasId (c .request-id)) (s .hit .cells) → find peer (c .request-id) b ≡ none
+      absent : NoneOf (hasId (c .request-id)) (s .hit .cells) → find peer (c .request-id) (b .model) ≡ none
       absent a = find-is rel peer (c .request-id) ∙ own-find peer (rel .tidy) s (c .request-id) a
 
       frees : NoneOf (hasId (c .request-id)) (s .hit .cells) → NoneOf isFree (s .hit .cells) ⊎ Split isFree (s .hit .cells) → Goal
@@ -220,9 +230,9 @@ module _ (shape : Shape) {v : Value} {b : Model} (rel : Rel (shape .«max_peers�
             fewer = omega (arith, used, four, split-short u isUsed (rw (u .passes)));
           })
         where
-          found : (every isFree (s .hit .cells) ≡ true) ⊎ (every isFree (s .hit .cells) ≡ false) → findsRecord (shape .«max_peers») peer b ≡ true
+          found : (every isFree (s .hit .cells) ≡ true) ⊎ (every isFree (s .hit .cells) ≡ false) → findsRecord (shape .«max_peers») peer (b .model) ≡ true
           found (inl w) = finds-idle rel peer s w
-          found (inr w) = finds-open (shape .«max_peers») peer b (omega (arith, used, used-some (s .hit .cells) w))
+          found (inr w) = finds-open (shape .«max_peers») peer (b .model) (omega (arith, used, used-some (s .hit .cells) w))
 
       ids : NoneOf (hasId (c .request-id)) (s .hit .cells) ⊎ Split (hasId (c .request-id)) (s .hit .cells) → Goal
       ids (inl a) = frees a (view isFree (s .hit .cells))
@@ -230,7 +240,7 @@ module _ (shape : Shape) {v : Value} {b : Model} (rel : Rel (shape .«max_peers�
           let o = own-open rel peer (c .request-id) s u in
           judged-both s chosen (s .fails) behind u (rw (split-place u)) (o .3)
           (arrive-open shape peer b (o .0) c now-ms (o .2)
-          ∙ ap (λ (x : Option Open). arrived peer (c .request-id) b (judged shape (touchedAt x now-ms) c)) (sym (o .1)))
+          ∙ ap (λ (x : Option Open). arrived peer (c .request-id) b (judgedBy (b .clock) x)) (sym (o .1)))
 
   pub take-rel : Goal
   take-rel = owns (view (isOwn peer) (v .recs))

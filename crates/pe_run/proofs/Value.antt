@@ -19,7 +19,6 @@ use Rattle.pe_run.specs.Model.{Open, Model, isNone, entryOf, touchedAt, 
 use Rattle.pe_run.specs.Run.{Table}
 
 pub record Cell : Type 0 where
-  pub tick : ℕ
   pub request-id : ℕ
   pub state : Option Open
 
@@ -36,9 +35,9 @@ pub record Value : Type 0 where
 unfoldable pub cellOf : List ℕ → List ℕ → List ℕ → List ℕ → Cell
 cellOf words index header arena =
     record {
-      tick = getD words lruTickAt 0;
       request-id = getD words requestIdAt 0;
-      state = cond (eqb (getD words activeAt 0) 0) none (some (record { time = getD words lastActivityAt 0; slot = contents (slotOf words) index header arena }));
+      state = cond (eqb (getD words activeAt 0) 0) none
+          (some (record { time = getD words lastActivityAt 0; tick = getD words lruTickAt 0; slot = contents (slotOf words) index header arena }));
     }
 
 unfoldable pub cellAt : Shape → Table → ℕ → ℕ → Cell
@@ -63,7 +62,7 @@ valueOf shape t = record { clock = getD (t .numbers) 0 0; recs = recsFrom shape 
 
 -- ---- what `new` makes
 abbrev pub noCell : Cell
-noCell = record { tick = 0; request-id = 0; state = none }
+noCell = record { request-id = 0; state = none }
 
 abbrev pub noRec : Rec
 noRec = record { bound = false; muid = 0x0FFFFFFF; cells = noCell ∷ noCell ∷ noCell ∷ noCell ∷ [] }
@@ -125,17 +124,17 @@ pub record Taken : Type 0 where
   pub answer : Reply Event
 
 -- a cell with what is left open in it; closed, its id is 0
-abbrev pub cellWith : ℕ → ℕ → Option Open → Cell
-cellWith tick request-id none = record { tick = tick; request-id = 0; state = none }
-cellWith tick request-id (some o) = record { tick = tick; request-id = request-id; state = some o }
+abbrev pub cellWith : ℕ → Option Open → Cell
+cellWith request-id none = noCell
+cellWith request-id (some o) = record { request-id = request-id; state = some o }
 
 unfoldable pub takeCell : Shape → Value → ℕ → Chunk → ℕ → ℕ → Rec → ℕ → Taken
 takeCell shape v peer c now-ms p r s =
-    let j : Judged = judged shape (touchedAt (getD (r .cells) s noCell .state) now-ms) c in
+    let j : Judged = judged shape (touchedAt (getD (r .cells) s noCell .state) now-ms (nextTick (v .clock))) c in
     record {
       value = record {
         clock = nextTick (v .clock);
-        recs = set (v .recs) p (record { bound = true; muid = peer; cells = set (r .cells) s (cellWith (nextTick (v .clock)) (c .request-id) (j .left)) });
+        recs = set (v .recs) p (record { bound = true; muid = peer; cells = set (r .cells) s (cellWith (c .request-id) (j .left)) });
       };
       answer = j .answer;
     }
@@ -152,9 +151,8 @@ unfoldable pub takes : Shape → Value → ℕ → Chunk → ℕ → Taken
 takes shape v peer c now-ms = takeAt shape v peer c now-ms (choose peer (v .recs))
 
 -- ---- the calls that close
--- closed: its tick stays
 abbrev pub shut : Cell → Cell
-shut c = record { tick = c .tick; request-id = 0; state = none }
+shut c = noCell
 
 abbrev pub withCells : Rec → List Cell → Rec
 withCells r cells = record { bound = r .bound; muid = r .muid; cells = cells }

@@ -83,7 +83,7 @@ module _ (shape : Shape) (t : Table) (numbers′ : List ℕ) where
           (roomPart (shape .«header_bytes») (t .headers) p s) (roomPart (shape .«tx_bytes») (t .arenas) p s)))
           (cellOf (wordsPart (t .numbers) p s) (roomPart (shape .«fragment_records») (t .index) p s) (roomPart (shape .«header_bytes») (t .headers) p s)
           (roomPart (shape .«tx_bytes») (t .arenas) p s))
-      go true = closed-cell _ _ _ _
+      go true = closed-cell (wordsPart (t .numbers) p s) _ _ _
       go false = refl
 
 -- the value, where only the records differ

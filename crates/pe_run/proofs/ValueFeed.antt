@@ -103,14 +103,14 @@ module _ (shape : Shape) (t : Table) (out-header out-body : List ℕ) (peer : �
         (roomPart (shape .«tx_bytes») (t .arenas) p s)
 
     abbrev told : Judged
-    told = judged shape (touchedAt (cell .state) now-ms) c
+    told = judged shape (touchedAt (cell .state) now-ms (nextTick (getD (t .numbers) 0 0))) c
 
     cell-is : getD (recAt shape t p .cells) s noCell ≡ cell
     unfolding cellAt
     cell-is = cell-at shape t p s hs
 
-    told-is : told ≡ judged shape (touchedAt (getD (recAt shape t p .cells) s noCell .state) now-ms) c
-    told-is = ap (λ (x : Cell). judged shape (touchedAt (x .state) now-ms) c) (sym cell-is)
+    told-is : told ≡ judged shape (touchedAt (getD (recAt shape t p .cells) s noCell .state) now-ms (nextTick (getD (t .numbers) 0 0))) c
+    told-is = ap (λ (x : Cell). judged shape (touchedAt (x .state) now-ms (nextTick (getD (t .numbers) 0 0))) c) (sym cell-is)
 
     sized : Sized shape (wordsPart (t .numbers) p s) (roomPart (shape .«fragment_records») (t .index) p s) (roomPart (shape .«header_bytes») (t .headers) p s)
         (roomPart (shape .«tx_bytes») (t .arenas) p s)
@@ -141,7 +141,7 @@ module _ (shape : Shape) (t : Table) (out-header out-body : List ℕ) (peer : �
                 clock = nextTick (getD (t .numbers) 0 0);
                 recs = set (recsFrom shape t 0 (shape .«max_peers»)) p (record { bound = true; muid = peer; cells = set (recAt shape t p .cells) s x });
               })
-              (q ∙ ap (λ (j : Judged). cellWith (nextTick (getD (t .numbers) 0 0)) (c .request-id) (j .left)) told-is);
+              (q ∙ ap (λ (j : Judged). cellWith (c .request-id) (j .left)) told-is);
           answer-is = o .0 ∙ ap (λ (j : Judged). toldAnswer (j .answer)) told-is;
           out-header-is = o .1 ∙ ap (λ (j : Judged). outHeader (j .answer) out-header) told-is;
           out-body-is = o .2 ∙ ap (λ (j : Judged). outBody (j .answer) out-body) told-is;

@@ -29,7 +29,7 @@ use Rattle.pe_run.proofs.ValueCalls.{renumbered-long, cell-closed, valu
 late-is : (words index header arena : List ℕ) (now-ms : ℕ)
     → (not (eqb (getD words activeAt 0) 0) && leb 3000 (now-ms - getD words lastActivityAt 0)) ≡ lateState now-ms (cellOf words index header arena .state)
 unfolding cellOf
-late-is words index header arena now-ms = go (eqb (getD words activeAt 0) 0) (record { time = getD words lastActivityAt 0; slot = contents (slotOf words) index header arena })
+late-is words index header arena now-ms = go (eqb (getD words activeAt 0) 0) _
   where
     go : (b : Bool) (o : Open) → (not b && leb 3000 (now-ms - o .time)) ≡ lateState now-ms (cond b none (some o))
     go true o = refl

@@ -12,7 +12,7 @@ use lib.ListN.{length, getD, take}
 use Rattle.seven_bit.proofs.ReplyLaws.{both, and-told}
 use Rattle.pe_frame.specs.Chunk.{Chunk}
 use Rattle.pe_slot.specs.declared.layout.TxSlot.{TxSlot}
-use Rattle.pe_slot.specs.Layout.{slotWords, activeAt, lastActivityAt, headerLenAt, indexLenAt}
+use Rattle.pe_slot.specs.Layout.{slotWords, activeAt, lastActivityAt, lruTickAt, headerLenAt, indexLenAt}
 use Rattle.pe_slot.specs.Slot.{Slot, Verdict, judge, slotAfter}
 use Rattle.pe_slot.specs.Memory.{slotOf, wordsOf, piecesOf, contents, endsAt, isEnd, isSound}
 use Rattle.pe_slot.specs.Feed.{SlotLeft, touched, grown, closedSlot, toldAnswer, outHeader, outBody, placed, reachedSlot}
@@ -74,27 +74,29 @@ module _ (shape : Shape) (words index header arena : List ℕ)
       rw (b .1, b .0, no-records e)
 
   -- what a slot holds is what its cell is opened with
-  held-slot : (now-ms : ℕ)
-      → touchedAt (cellOf words index header arena .state) now-ms ≡ record { time = now-ms; slot = contents (slotOf words) index header arena }
+  held-slot : (now-ms tick : ℕ)
+      → touchedAt (cellOf words index header arena .state) now-ms tick ≡ record { time = now-ms; tick = tick; slot = contents (slotOf words) index header arena }
   unfolding cellOf
-  held-slot now-ms = go (both (eqb (getD words activeAt 0) 0))
+  held-slot now-ms tick = go (both (eqb (getD words activeAt 0) 0))
     where
       s : Slot
       s = contents (slotOf words) index header arena
 
       o : Open
-      o = record { time = getD words lastActivityAt 0; slot = s }
+      o = record { time = getD words lastActivityAt 0; tick = getD words lruTickAt 0; slot = s }
 
       go : (eqb (getD words activeAt 0) 0 ≡ true) ⊎ (eqb (getD words activeAt 0) 0 ≡ false)
-          → touchedAt (cond (eqb (getD words activeAt 0) 0) none (some o)) now-ms ≡ record { time = now-ms; slot = s }
-      go (inl e) = ap (λ (b : Bool). touchedAt (cond b none (some o)) now-ms) e ∙ ap (λ (x : Slot). record { time = now-ms; slot = x }) (sym (empty e))
-      go (inr e) = ap (λ (b : Bool). touchedAt (cond b none (some o)) now-ms) e
+          → touchedAt (cond (eqb (getD words activeAt 0) 0) none (some o)) now-ms tick ≡ record { time = now-ms; tick = tick; slot = s }
+      go (inl e) =
+          ap (λ (b : Bool). touchedAt (cond b none (some o)) now-ms tick) e
+          ∙ ap (λ (x : Slot). record { time = now-ms; tick = tick; slot = x }) (sym (empty e))
+      go (inr e) = ap (λ (b : Bool). touchedAt (cond b none (some o)) now-ms tick) e
 
 -- what a verdict leaves of the words, as a cell
 cell-left : (closes : Bool) (t : TxSlot) (c : Chunk) (v : Verdict) (request-id now-ms tick : ℕ) (index header arena : List ℕ) (s : Slot)
     → (let g : TxSlot = grown (touched t request-id now-ms tick) c v in
     (closes ≡ false → contents (slotOf (wordsOf (cond closes (closedSlot g) g))) index header arena ≡ s)
-    → cellOf (wordsOf (cond closes (closedSlot g) g)) index header arena ≡ cellWith tick request-id (cond closes none (some (record { time = now-ms; slot = s }))))
+    → cellOf (wordsOf (cond closes (closedSlot g) g)) index header arena ≡ cellWith request-id (cond closes none (some (record { time = now-ms; tick = tick; slot = s }))))
 unfolding cellOf
 cell-left true t c v request-id now-ms tick index header arena s e = refl
 cell-left false t c v request-id now-ms tick index header arena s e = rw (opened (t .active), e refl)
@@ -130,8 +132,8 @@ module _ (shape : Shape) (words index header arena : List ℕ) (c : Chunk) (now-
       let g = rw (size .index-size, size .header-size, size .arena-size) at f in
       g q
 
-  left-cell : cellOf (left .words) (left .index) (left .header) (left .arena) ≡ cellWith tick (c .request-id)
-      (judged shape (record { time = now-ms; slot = held }) c .left)
+  left-cell : cellOf (left .words) (left .index) (left .header) (left .arena) ≡ cellWith (c .request-id)
+      (judged shape (record { time = now-ms; tick = tick; slot = held }) c .left)
   unfolding judged placed
   left-cell =
       cell-left (verdict .closes) (slotOf words) c verdict (c .request-id) now-ms tick (left .index) (left .header) (left .arena)
@@ -139,16 +141,16 @@ module _ (shape : Shape) (words index header arena : List ℕ) (c : Chunk) (now-
 
   -- the cell after it, the answer and the outputs
   abbrev told : Judged
-  told = judged shape (touchedAt (cellOf words index header arena .state) now-ms) c
+  told = judged shape (touchedAt (cellOf words index header arena .state) now-ms tick) c
 
-  told-is : told ≡ judged shape (record { time = now-ms; slot = held }) c
-  told-is = ap (λ (o : Open). judged shape o c) (held-slot shape words index header arena neat now-ms)
+  told-is : told ≡ judged shape (record { time = now-ms; tick = tick; slot = held }) c
+  told-is = ap (λ (o : Open). judged shape o c) (held-slot shape words index header arena neat now-ms tick)
 
-  pub fed-cell : cellOf (fed .words) (fed .index) (fed .header) (fed .arena) ≡ cellWith tick (c .request-id) (told .left)
+  pub fed-cell : cellOf (fed .words) (fed .index) (fed .header) (fed .arena) ≡ cellWith (c .request-id) (told .left)
   fed-cell =
       ap (λ (x : SlotLeft). cellOf (x .words) (x .index) (x .header) (x .arena)) fed-is
       ∙ left-cell
-      ∙ ap (λ (j : Judged). cellWith tick (c .request-id) (j .left)) (sym told-is)
+      ∙ ap (λ (j : Judged). cellWith (c .request-id) (j .left)) (sym told-is)
 
   pub fed-told : (fed .answer ≡ toldAnswer (told .answer)) × (fed .out-header ≡ outHeader (told .answer) out-header) ×
       (fed .out-body ≡ outBody (told .answer) out-body)

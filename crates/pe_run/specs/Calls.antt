@@ -15,9 +15,11 @@ use Rattle.pe_slot.specs.Feed.{Told, toldAnswer, outHeader, outBody}
 use Rattle.pe_reassembler.specs.declared.shape.Shape.{Shape}
 use Rattle.pe_reassembler.specs.Table.{isMuid}
 use Rattle.pe_reassembler.specs.Calls.{Totals, reservedOf}
-use Rattle.pe_reassembler.specs.Open.{Perm, Shown}
-use Rattle.pe_run.specs.Lists.{keep}
-use Rattle.pe_run.specs.Model.{Entry, Model, isLate, find, isNone, openOf, arrives, Act, arrive, cancel as cancelled, drop as dropped}
+use Rattle.pe_reassembler.specs.Open.{Shown, ahead, Listed, listed as listing, listedRows}
+use Rattle.pe_reassembler.specs.Order.{inOrder, Ascending}
+use Rattle.pe_reassembler.specs.Poll.{Timeout, byTick}
+use Rattle.pe_run.specs.Lists.{keep, Perm}
+use Rattle.pe_run.specs.Model.{Entry, Model, Clocked, start, isLate, find, isNone, openOf, arrives, Act, arrive, cancel as cancelled, drop as dropped}
 use Rattle.pe_run.specs.Model.{poll as polled, nothing, acted}
 
 -- "any sequence of the eight .. with any arguments": the arguments are those of the calls, the lent outputs among them.
@@ -109,17 +111,17 @@ actOf shape reserved-bytes = nothing
 actOf shape (open-list out-peers out-ids out-held) = nothing
 
 -- The model after calls; "It starts empty."
-abbrev pub modelFrom : Shape → Model → List Call → Model
+abbrev pub modelFrom : Shape → Clocked → List Call → Clocked
 modelFrom shape b [] = b
 modelFrom shape b (c ∷ calls) = modelFrom shape (acted shape b (actOf shape c)) calls
 
-abbrev pub modelAfter : Shape → List Call → Model
-modelAfter shape calls = modelFrom shape [] calls
+abbrev pub modelAfter : Shape → List Call → Clocked
+modelAfter shape calls = modelFrom shape start calls
 
 -- ---- what the model answers
 -- "A list is *handed out* when the answer is whole with its two lengths and the outputs begin with exactly its header and body; an answer of
 -- waiting leaves both outputs unchanged.": `outHeader` and `outBody`; a refusal leaves them too.
-abbrev pub arrivalAnswer : Shape → Model → Reply Arrival → List ℕ → List ℕ → Answer
+abbrev pub arrivalAnswer : Shape → Clocked → Reply Arrival → List ℕ → List ℕ → Answer
 arrivalAnswer shape b (granted a) out-header out-body =
     let answer : Reply Event = arrives shape b (a .peer) (a .chunk) (a .time) .answer in
     fed (toldAnswer answer) (outHeader answer out-header) (outBody answer out-body)
@@ -137,60 +139,56 @@ abbrev pub bytesOpen : Model → ℕ
 bytesOpen [] = 0
 bytesOpen (e ∷ b) = entryBytes e + bytesOpen b
 
--- A slot whose time is up, as a poll lists it, and an open slot as an open list shows it: "each transfer open in the book once, its frames
--- held being the number of pieces".
-pub record Key : Type 0 where
-  pub peer : ℕ
-  pub request-id : ℕ
+-- A slot whose time is up, as a poll lists it: rows "by tick", those of one tick in any order, each once, and the columns with them.
+abbrev pub dueOf : Entry → Timeout
+dueOf e = record { tick = e .state .tick; peer = e .peer; request-id = e .request-id }
 
-abbrev pub keyOf : Entry → Key
-keyOf e = record { peer = e .peer; request-id = e .request-id }
-
-abbrev pub shownOf : Entry → Shown
-shownOf e = record { peer = e .peer; request-id = e .request-id; held = length (e .state .slot .pieces) }
-
--- The two answers whose order is not the model's: rows in any order, each once, and the columns with them.
 pub record TimedOut (b : Model) (now-ms : ℕ) (out-peers out-ids : List ℕ) (a : Answer) : Type 0 where
-  pub rows : List Key
-  pub each-once : Perm rows (map keyOf (keep (isLate now-ms) b))
+  pub rows : List Timeout
+  pub each-once : Perm rows (map dueOf (keep (isLate now-ms) b))
+  pub by-tick : Ascending byTick rows
   pub told : a ≡ timed-out (granted (length rows))
-      (map (λ (k : Key). k .peer) rows ++ drop (length rows) out-peers)
-      (map (λ (k : Key). k .request-id) rows ++ drop (length rows) out-ids)
+      (map (λ (r : Timeout). r .peer) rows ++ drop (length rows) out-peers)
+      (map (λ (r : Timeout). r .request-id) rows ++ drop (length rows) out-ids)
 
-pub record Shows (b : Model) (out-peers out-ids out-held : List ℕ) (a : Answer) : Type 0 where
-  pub rows : List Shown
-  pub each-once : Perm rows (map shownOf b)
-  pub told : a ≡ listed (granted (length rows))
-      (map (λ (r : Shown). r .peer) rows ++ drop (length rows) out-peers)
-      (map (λ (r : Shown). r .request-id) rows ++ drop (length rows) out-ids)
-      (map (λ (r : Shown). r .held) rows ++ drop (length rows) out-held)
+-- An open slot as an open list shows it: "each transfer open in the book once, its frames held being the number of pieces"; "lowest tick, then lowest
+-- console number, lowest request id".
+abbrev pub shownOf : Entry → Shown
+shownOf e = record { tick = e .state .tick; peer = e .peer; request-id = e .request-id; held = length (e .state .slot .pieces) }
+
+abbrev pub shows : Model → List Shown
+shows b = inOrder ahead [] (map shownOf b)
+
+abbrev pub listTold : Listed → Answer
+listTold l = listed (l .answer) (l .out-peers) (l .out-ids) (l .out-held)
 
 -- Is it the answer that the model gives to the call?
-abbrev pub Right : Shape → Model → Call → Answer → Type 0
+abbrev pub Right : Shape → Clocked → Call → Answer → Type 0
 Right shape b (feed peer chunk now-ms out-header out-body) a =
     a ≡ arrivalAnswer shape b (fedArrival shape peer chunk now-ms out-header out-body) out-header out-body
 Right shape b (feed-message message now-ms out-header out-body) a =
     a ≡ arrivalAnswer shape b (messageArrival shape message now-ms out-header out-body) out-header out-body
-Right shape b (cancel peer request-id) a = a ≡ was-open (isMuid peer else 28 then granted (not (isNone (find peer request-id b))))
-Right shape b (drop-peer peer) a = a ≡ counted (isMuid peer else 28 then granted (openOf peer b))
+Right shape b (cancel peer request-id) a = a ≡ was-open (isMuid peer else 28 then granted (not (isNone (find peer request-id (b .model)))))
+Right shape b (drop-peer peer) a = a ≡ counted (isMuid peer else 28 then granted (openOf peer (b .model)))
 Right shape b (poll now-ms out-peers out-ids) a =
     cond (hasPlaces (shape .«max_peers») out-peers && hasPlaces (shape .«max_peers») out-ids)
-    (TimedOut b now-ms out-peers out-ids a)
+    (TimedOut (b .model) now-ms out-peers out-ids a)
     (a ≡ timed-out (refused 30 0) out-peers out-ids)
 Right shape b memory-stats a =
     a ≡ totals (granted (record {
       reserved-bytes = reservedOf shape;
-      active-bytes = min (bytesOpen b) 18446744073709551615;
-      active-slots = length b;
+      active-bytes = min (bytesOpen (b .model)) 18446744073709551615;
+      active-slots = length (b .model);
     }))
 Right shape b reserved-bytes a = a ≡ counted (granted (reservedOf shape))
 Right shape b (open-list out-peers out-ids out-held) a =
-    cond (hasPlaces (shape .«max_peers») out-peers && hasPlaces (shape .«max_peers») out-ids && hasPlaces (shape .«max_peers») out-held)
-    (Shows b out-peers out-ids out-held a)
-    (a ≡ listed (refused 30 0) out-peers out-ids out-held)
+    a ≡ listTold (cond
+    (hasPlaces (shape .«max_peers») out-peers && hasPlaces (shape .«max_peers») out-ids && hasPlaces (shape .«max_peers») out-held)
+    (listedRows (shows (b .model)) out-peers out-ids out-held)
+    (listing (refused 30 0) out-peers out-ids out-held))
 
 -- Every answer, from one end of the run to the other.
-abbrev pub AllRight : Shape → Model → List Call → List Answer → Type 0
+abbrev pub AllRight : Shape → Clocked → List Call → List Answer → Type 0
 AllRight shape b [] [] = Unit {0}
 AllRight shape b [] (a ∷ answers) = ⊥
 AllRight shape b (c ∷ calls) [] = ⊥

@@ -11,10 +11,10 @@ use Rattle.seven_bit.specs.Reply.{granted}
 use Rattle.pe_slot.specs.Feed.{still, lengths}
 use Rattle.pe_chunker.specs.Cut.{maxSysexMax, cutCount, cutChunk}
 use Rattle.pe_reassembler.specs.declared.shape.Shape.{Shape}
-use Rattle.pe_reassembler.specs.Open.{Perm, Shown, openSlots}
+use Rattle.pe_reassembler.specs.Open.{Shown, openSlots}
 use Rattle.pe_reassembler.specs.Table.{numbersLen}
-use Rattle.pe_run.specs.Lists.{tally}
-use Rattle.pe_run.specs.Model.{Model, find, openOf, findsRecord, Act, arrive, cancel, drop as drop-all, poll, nothing}
+use Rattle.pe_run.specs.Lists.{tally, Perm}
+use Rattle.pe_run.specs.Model.{Model, start, find, openOf, findsRecord, Act, arrive, cancel, drop as drop-all, poll, nothing}
 use Rattle.pe_run.specs.Calls.{Call, Answer, fed, Arrival, arrivalOf, actOf, modelAfter, AllRight}
 use Rattle.pe_run.specs.Run.{Table, made, tableFrom, Run}
 
@@ -104,16 +104,23 @@ pub record Delivery (n : ℕ) (b : Model) (peer request-id : ℕ) (header body :
   pub each-once : Perm (map (λ (a : Arrival). a .bytes) (ours (fullSize n) peer request-id (first ∷ rest))) chunks
   pub spared : Spared peer request-id 0 (map (actOf (fullSize n)) (first ∷ rest))
 
+-- No two rows share peer and request id.
+abbrev pub Apart : List Shown → Type 0
+Apart [] = Unit {0}
+Apart (r ∷ rows) = (tally (λ (u : Shown). eqb (r .peer) (u .peer) && eqb (r .request-id) (u .request-id)) rows ≡ 0) × Apart rows
+
 -- Of every run on a full-size table of n peers that `new` has just made of memory t:
 pub record Demand3 (n : ℕ) (t : Table) : Type 0 where
   -- every answer is the model's;
-  pub answers : (calls : List Call) (told : List Answer) → Run (fullSize n) (made (fullSize n) t) calls told → AllRight (fullSize n) [] calls told
+  pub answers : (calls : List Call) (told : List Answer) → Run (fullSize n) (made (fullSize n) t) calls told → AllRight (fullSize n) start calls told
   -- no peer ever has more than four slots open;
   pub four : (calls : List Call) (peer : ℕ)
       → tally (λ (r : Shown). eqb peer (r .peer)) (openSlots (fullSize n) (tableFrom (fullSize n) (made (fullSize n) t) calls .numbers)) ≤ 4
+  -- no two open slots share peer and request id, so that in an open list place never decides;
+  pub apart : (calls : List Call) → Apart (openSlots (fullSize n) (tableFrom (fullSize n) (made (fullSize n) t) calls .numbers))
   -- and a list whose chunks arrive is handed out with the last of them.
   pub delivery : (before : List Call) (peer request-id : ℕ) (header body : List ℕ) (limit : ℕ) (first : Call) (rest : List Call) (told : List Answer)
-      → Delivery n (modelAfter (fullSize n) before) peer request-id header body limit first rest
+      → Delivery n (modelAfter (fullSize n) before .model) peer request-id header body limit first rest
       → Run (fullSize n) (tableFrom (fullSize n) (made (fullSize n) t) before) (first ∷ rest) told
       → answersTo (fullSize n) peer request-id (first ∷ rest) told ≡ delivered header body (ours (fullSize n) peer request-id (first ∷ rest))
 

@@ -12,7 +12,8 @@ use Rattle.pe_frame.specs.Chunk.{Chunk, chunkFrom}
 use Rattle.pe_frame.specs.Write.{chunkBytes, headerFor}
 use Rattle.pe_slot.specs.Feed.{still, lengths}
 use Rattle.pe_reassembler.specs.Table.{numbersLen}
-use Rattle.pe_run.specs.Calls.{Call, feed, feed-message, cancel, drop-peer, poll, memory-stats, Answer, fed, was-open, counted, timed-out, totals}
+use Rattle.pe_run.specs.Calls.{Call, feed, feed-message, cancel, drop-peer, poll, memory-stats, open-list, Answer, fed, was-open, counted}
+use Rattle.pe_run.specs.Calls.{timed-out, totals, listed}
 use Rattle.pe_run.specs.Run.{Table, table}
 use Rattle.pe_run.specs.Demand.{fullSize}
 
@@ -75,6 +76,7 @@ rest =
     ∷ feed 9 (chunkBytes (other 6 1)) 200 lentHeader lentBody
     ∷ feed 9 (chunkBytes stray) 250 lentHeader lentBody
     ∷ memory-stats
+    ∷ open-list places places places
     ∷ poll 3099 places places
     ∷ poll 9000 places []
     ∷ feed 9 torn 300 lentHeader lentBody
@@ -92,6 +94,7 @@ answers =
     ∷ fed (refused 8 0) lentHeader lentBody
     ∷ fed (refused 8 0) lentHeader lentBody
     ∷ totals (granted (record { reserved-bytes = 688128; active-bytes = 38; active-slots = 3 }))
+    ∷ listed (granted 3) (9 ∷ 8 ∷ 9 ∷ drop 3 places) (5 ∷ 5 ∷ 6 ∷ drop 3 places) (1 ∷ 2 ∷ 1 ∷ drop 3 places)
     ∷ timed-out (granted 0) places places
     ∷ timed-out (refused 30 0) places []
     ∷ fed (refused 2 0) lentHeader lentBody

@@ -15,6 +15,13 @@ module _ {A : Type 0} where
   tally test [] = 0
   tally test (x ∷ xs) = cond (test x) (suc (tally test xs)) (tally test xs)
 
+-- One list is the other in another order.
+pub data Perm {A : Type 0} : List A → List A → Type 0 where
+  empty : Perm [] []
+  skip : {x : A} {xs ys : List A} → Perm xs ys → Perm (x ∷ xs) (x ∷ ys)
+  swap : {x y : A} {xs : List A} → Perm (x ∷ y ∷ xs) (y ∷ x ∷ xs)
+  then : {xs ys zs : List A} → Perm xs ys → Perm ys zs → Perm xs zs
+
 -- Is the number in the list?
 abbrev pub memb : ℕ → List ℕ → Bool
 memb n [] = false

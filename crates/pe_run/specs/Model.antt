@@ -1,5 +1,6 @@
 -- The model of what is open (document 01's book): "kept from the calls' arguments alone: open transfers, each with console, request id,
--- time, header or none, count or 0, and pieces (frame number, property bytes). It starts empty."
+-- time, header or none, count or 0, and pieces (frame number, property bytes). It starts empty." Document 02, K7, orders the open list by tick; so
+-- the model keeps ticks too.
 -- Assumes nothing.
 use Prim.Native.Nat.{ℕ, _-_}
 use mathlib.Core.Bool.{Bool, true, false, cond, not, _&&_, _||_}
@@ -10,11 +11,13 @@ use Rattle.seven_bit.specs.Reply.{Reply, refused}
 use Rattle.pe_frame.specs.Chunk.{Chunk}
 use Rattle.pe_slot.specs.Slot.{Slot, Event, Verdict, judge, slotAfter}
 use Rattle.pe_reassembler.specs.declared.shape.Shape.{Shape}
+use Rattle.pe_reassembler.specs.Feed.{nextTick}
 use Rattle.pe_run.specs.Lists.{keep, tally, different}
 
--- What is open: the time of its last chunk, and header, count and pieces.
+-- What is open: time and tick of its last chunk, and header, count and pieces.
 pub record Open : Type 0 where
   pub time : ℕ
+  pub tick : ℕ
   pub slot : Slot
 
 pub record Entry : Type 0 where
@@ -24,6 +27,17 @@ pub record Entry : Type 0 where
 
 abbrev pub Model : Type 0
 Model = List Entry
+
+-- The model, and the last tick that was given. "It starts empty"; "the first is 2".
+pub record Clocked : Type 0 where
+  pub clock : ℕ
+  pub model : Model
+
+abbrev pub clocked : ℕ → Model → Clocked
+clocked clock b = record { clock = clock; model = b }
+
+abbrev pub start : Clocked
+start = clocked 1 []
 
 -- Under this peer and request id? Under this peer? "now − time at least 3,000 (0 if the clock went back)"?
 abbrev pub isAt : ℕ → ℕ → Entry → Bool
@@ -61,10 +75,10 @@ findsRecord n peer b = not (eqb (openOf peer b) 0) || ltb (peersOpen b) n
 unfoldable pub hasFour : ℕ → ℕ → Model → Bool
 hasFour peer request-id b = isNone (find peer request-id b) && leb 4 (openOf peer b)
 
--- "Else its transfer, opened if need be, takes the call's time"
-abbrev pub touchedAt : Option Open → ℕ → Open
-touchedAt none now-ms = record { time = now-ms; slot = record { header = none; count = 0; pieces = [] } }
-touchedAt (some o) now-ms = record { time = now-ms; slot = o .slot }
+-- "Else its transfer, opened if need be, takes the call's time", and "Each frame that reaches a transfer sets .. a tick"
+abbrev pub touchedAt : Option Open → ℕ → ℕ → Open
+touchedAt none now-ms tick = record { time = now-ms; tick = tick; slot = record { header = none; count = 0; pieces = [] } }
+touchedAt (some o) now-ms tick = record { time = now-ms; tick = tick; slot = o .slot }
 
 -- "**Transfer**'s questions are put to the book, with what they store, take and close", at the shape's H, B and R.
 pub record Judged : Type 0 where
@@ -75,7 +89,7 @@ unfoldable pub judged : Shape → Open → Chunk → Judged
 judged shape o c =
     let v : Verdict = judge (shape .«header_bytes») (shape .«tx_bytes») (shape .«fragment_records») (o .slot) c in
     record {
-      left = cond (v .closes) none (some (record { time = o .time; slot = slotAfter (o .slot) c v }));
+      left = cond (v .closes) none (some (record { time = o .time; tick = o .tick; slot = slotAfter (o .slot) c v }));
       answer = v .answer;
     }
 
@@ -88,19 +102,24 @@ abbrev pub without : ℕ → ℕ → Model → Model
 without peer request-id b = keep (λ (e : Entry). not (isAt peer request-id e)) b
 
 pub record Arrived : Type 0 where
-  pub model : Model
+  pub left : Clocked
   pub answer : Reply Event
 
-abbrev pub arrived : ℕ → ℕ → Model → Judged → Arrived
-arrived peer request-id b j = record { model = entryOf peer request-id (j .left) ++ without peer request-id b; answer = j .answer }
+-- A chunk that reaches its slot: "a tick one above the last (the first is 2, held at 2^64 − 1)".
+abbrev pub arrived : ℕ → ℕ → Clocked → Judged → Arrived
+arrived peer request-id b j =
+    record {
+      left = clocked (nextTick (b .clock)) (entryOf peer request-id (j .left) ++ without peer request-id (b .model));
+      answer = j .answer;
+    }
 
 -- A chunk that arrives. "It stays too at 7, when its console has nothing open and n others have, and at 6, when its id is not open there
 -- and four others are. Else its transfer, opened if need be, takes the call's time, and **Transfer**'s questions are put to the book".
-unfoldable pub arrives : Shape → Model → ℕ → Chunk → ℕ → Arrived
+unfoldable pub arrives : Shape → Clocked → ℕ → Chunk → ℕ → Arrived
 arrives shape b peer c now-ms =
-    cond (not (findsRecord (shape .«max_peers») peer b)) (record { model = b; answer = refused 7 0 })
-    (cond (hasFour peer (c .request-id) b) (record { model = b; answer = refused 6 0 })
-    (arrived peer (c .request-id) b (judged shape (touchedAt (find peer (c .request-id) b) now-ms) c)))
+    cond (not (findsRecord (shape .«max_peers») peer (b .model))) (record { left = b; answer = refused 7 0 })
+    (cond (hasFour peer (c .request-id) (b .model)) (record { left = b; answer = refused 6 0 })
+    (arrived peer (c .request-id) b (judged shape (touchedAt (find peer (c .request-id) (b .model)) now-ms (nextTick (b .clock))) c)))
 
 -- What a call means for the model. `nothing`: a call that is refused ahead of **Table**'s questions, and one that changes nothing.
 pub data Act : Type 0 where
@@ -112,9 +131,9 @@ pub data Act : Type 0 where
 
 -- "Cancel closes the transfer it names, drop all of its console, poll those with now − time at least 3,000 (0 if the clock went back).
 -- Refused, they change nothing; the other calls never do."
-abbrev pub acted : Shape → Model → Act → Model
-acted shape b (arrive peer c now-ms) = arrives shape b peer c now-ms .model
-acted shape b (cancel peer request-id) = without peer request-id b
-acted shape b (drop peer) = keep (λ (e : Entry). not (isOf peer e)) b
-acted shape b (poll now-ms) = keep (λ (e : Entry). not (isLate now-ms e)) b
+abbrev pub acted : Shape → Clocked → Act → Clocked
+acted shape b (arrive peer c now-ms) = arrives shape b peer c now-ms .left
+acted shape b (cancel peer request-id) = clocked (b .clock) (without peer request-id (b .model))
+acted shape b (drop peer) = clocked (b .clock) (keep (λ (e : Entry). not (isOf peer e)) (b .model))
+acted shape b (poll now-ms) = clocked (b .clock) (keep (λ (e : Entry). not (isLate now-ms e)) (b .model))
 acted shape b nothing = b

@@ -10,9 +10,9 @@ use Rattle.pe_reassembler.specs.Table.{hasRooms}
 use Rattle.pe_reassembler.specs.Feed.{Memory, memory, FeedLeft, feedCall, messageCall}
 use Rattle.pe_reassembler.specs.Calls.{newCall, cancelCall, dropCall, statsCall, reservedCall}
 use Rattle.pe_reassembler.specs.Poll.{pollCall}
-use Rattle.pe_reassembler.specs.Open.{Listed, OpenList}
+use Rattle.pe_reassembler.specs.Open.{openCall}
 use Rattle.pe_run.specs.Calls.{Call, feed, feed-message, cancel, drop-peer, poll, memory-stats, reserved-bytes, open-list, Answer, fed}
-use Rattle.pe_run.specs.Calls.{was-open, counted, timed-out, totals, listed}
+use Rattle.pe_run.specs.Calls.{was-open, counted, timed-out, totals, listTold}
 
 -- The table's lent memory, without the outputs of a call.
 pub record Table : Type 0 where
@@ -62,11 +62,6 @@ tableFrom shape t (c ∷ calls) = tableFrom shape (step shape t c) calls
 abbrev pub feedTold : FeedLeft → Answer
 feedTold r = fed (r .answer) (r .memory .out-header) (r .memory .out-body)
 
-pub record ListTold (shape : Shape) (t : Table) (out-peers out-ids out-held : List ℕ) (a : Answer) : Type 0 where
-  pub left : Listed
-  pub contract : OpenList shape (t .numbers) out-peers out-ids out-held left
-  pub told : a ≡ listed (left .answer) (left .out-peers) (left .out-ids) (left .out-held)
-
 abbrev pub Answers : Shape → Table → Call → Answer → Type 0
 Answers shape t (feed peer chunk now-ms out-header out-body) a = a ≡ feedTold (feedCall shape (lent t out-header out-body) peer chunk now-ms)
 Answers shape t (feed-message message now-ms out-header out-body) a = a ≡ feedTold (messageCall shape (lent t out-header out-body) message now-ms)
@@ -77,7 +72,7 @@ Answers shape t (poll now-ms out-peers out-ids) a =
     a ≡ timed-out (r .answer) (r .out-peers) (r .out-ids)
 Answers shape t memory-stats a = a ≡ totals (statsCall shape (t .numbers))
 Answers shape t reserved-bytes a = a ≡ counted (reservedCall shape)
-Answers shape t (open-list out-peers out-ids out-held) a = ListTold shape t out-peers out-ids out-held a
+Answers shape t (open-list out-peers out-ids out-held) a = a ≡ listTold (openCall shape (t .numbers) out-peers out-ids out-held)
 
 -- Answers that the contracts allow, from one end of the run to the other.
 abbrev pub Run : Shape → Table → List Call → List Answer → Type 0

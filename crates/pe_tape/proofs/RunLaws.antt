@@ -5,6 +5,7 @@ use mathlib.Core.List.{List, [], _∷_, _++_}
 use mathlib.Core.Path.{_≡_, refl, ap, _∙_}
 use Rattle.pe_reassembler.specs.Feed.{Memory}
 use Rattle.pe_run.specs.Calls.{AllRight}
+use Rattle.pe_run.specs.Model.{start}
 use Rattle.pe_run.specs.Run.{Table, LongFor, step, tableFrom, Answers, Run}
 use Rattle.pe_run.proofs.Demand.{answers-right}
 use Rattle.pe_tape.specs.Command.{Command, feed, cancel, drop-peer, poll}
@@ -58,5 +59,5 @@ unfolding textOf
 replay-told m s = rw (lines-told (started m) (tapeOf s .commands))
 
 -- on a table that `new` has just made, each answer is the model's
-pub tape-right : (m : Memory) → LongFor tapeShape (tableOf m) → (cs : List Command) → AllRight tapeShape [] (callsOf (started m) cs) (answersOf (started m) cs)
+pub tape-right : (m : Memory) → LongFor tapeShape (tableOf m) → (cs : List Command) → AllRight tapeShape start (callsOf (started m) cs) (answersOf (started m) cs)
 tape-right m long cs = answers-right tapeShape (tableOf m) long [] (callsOf (started m) cs) (answersOf (started m) cs) (runs (started m) cs)

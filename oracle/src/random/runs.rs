@@ -1,5 +1,5 @@
 //! Random runs: a table, and the calls on it, one after the other.
-use super::damage::damage;
+use super::damage;
 use super::lists::{self, Sizes};
 use super::senders::{self, Sent};
 use crate::call::What;
@@ -18,7 +18,7 @@ use midici_pe::reassembler::{probe, Reassembler};
 
 /// How many calls a run has, besides those that feed a list of some 2,048 chunks.
 const CALLS: usize = 60;
-/// Once in so many calls the slot that a chunk reaches is damaged first.
+/// Once in so many calls the slot that a chunk reaches is damaged first, or what an open list reads.
 const DAMAGED_IN: usize = 16;
 const PEERS: [usize; 16] = [0, 1, 1, 1, 1, 1, 2, 2, 2, 2, 2, 8, 8, 8, 16, 16];
 
@@ -76,13 +76,16 @@ impl Script {
         Some(Call { damage: self.damage(r, &call), ..call })
     }
 
-    /// What is done to the slot that a call reaches; mostly nothing.
+    /// What is done to the table before a call; mostly nothing.
     fn damage(&mut self, r: &Reassembler, call: &Call) -> Vec<Damage> {
         if !self.rng.once_in(DAMAGED_IN) {
             return Vec::new();
         }
-        let Some(slot) = reached(r, call) else { return Vec::new() };
-        damage(&mut self.rng, probe::slot(r, slot / probe::PEER_SLOTS, slot % probe::PEER_SLOTS))
+        match reached(r, call) {
+            Some(slot) => damage::slot(&mut self.rng, r, slot),
+            None if call.lists() => damage::listed(&mut self.rng, r),
+            None => Vec::new(),
+        }
     }
 
     /// Is this one of the calls that feed the list of some 2,048 chunks? Nothing is wrong with them.

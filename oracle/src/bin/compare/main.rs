@@ -3,8 +3,9 @@
 //! tenth run through PROGRAM, which is `tape`. What the original lacks is compared with a reading of document 02; so are lists
 //! cut at K6's limits, and what K3 turns down and the original does not, but in a run what it turns down by what a slot holds. It
 //! stops at the first difference. It fails too where an export is not compared, or never gave a refusal that it can give, where
-//! nothing was left out for one of K3's questions or for K6's limits, or where a kind of line never came. `compare tapes SEED
-//! TAPES PROGRAM` compares tapes alone, `compare exports` prints the names of the exports that are compared.
+//! nothing was left out for one of K3's questions or for K6's limits, where tick, peer, request id or place never decided the order
+//! of an open list (K7), or where a kind of line never came. `compare tapes SEED TAPES PROGRAM` compares tapes alone, `compare
+//! exports` prints the names of the exports that are compared.
 mod port;
 mod runs;
 mod state;
@@ -97,6 +98,7 @@ fn compare_runs(seed: u64, runs: u64, summary: &mut Summary) -> Result<(), Strin
     println!("are put to the port alone and compared with the reading; or by what its slot holds, and then to neither side.");
     runs::compare(seed, runs, summary)?;
     What::exports().for_each(|export| println!("{}", summary.line(export)));
+    println!("{}", summary.open_lists());
     Ok(())
 }
 
@@ -120,6 +122,17 @@ fn check_left_out(runs: u64, summary: &Summary) -> Result<(), String> {
         Some(missing) => return Err(format!("NOTHING LEFT OUT: {missing}")),
         None if of_runs.is_some() => println!("Too few runs to leave out everything. RUNS={RUNS_FOR_ALL} does."),
         None => println!("For each of K3's questions and for K6's limits, calls were left out of each export that has it."),
+    }
+    Ok(())
+}
+
+/// Did each of tick, peer and request id put a slot ahead of one that lies before it, and on damaged numbers place decide too? Of
+/// fewer runs than reach it all it is only said.
+fn check_open_lists(runs: u64, summary: &Summary) -> Result<(), String> {
+    match summary.never_put_ahead() {
+        None => println!("Tick, peer and request id each put slots of open lists in order, and place did on damaged numbers."),
+        Some(missing) if runs >= RUNS_FOR_ALL => return Err(format!("NOT ALL ORDERS: {missing}")),
+        Some(missing) => println!("Too few runs for every order: {missing}. RUNS={RUNS_FOR_ALL} reaches all."),
     }
     Ok(())
 }
@@ -154,6 +167,7 @@ fn compare_all_parts(seed: u64, cases: u64, runs: u64, program: &str) -> Result<
     println!("{}, no difference", summary.totals(&compared()));
     check_refusals(runs, &summary)?;
     check_left_out(runs, &summary)?;
+    check_open_lists(runs, &summary)?;
     compare_tapes(seed, runs.div_ceil(RUNS_FOR_A_TAPE), program)
 }
 

@@ -1,11 +1,12 @@
 //! Runs of calls on a table, each put to the port and to the original, with all that both hold compared after every call.
 use crate::state;
-use crate::summary::Summary;
+use crate::summary::{Stored, Summary};
 use crate::table::Table;
 use midici_pe::reassembler::{probe, probe::Rooms, Reassembler};
-use oracle::call::{Tells, What, Written};
+use oracle::call::{listed, Tells, What, Written};
 use oracle::damage::is_sound;
 use oracle::layout::{HEADER_BYTES, MAX_SLOTS, TX_BYTES};
+use oracle::open;
 use oracle::original;
 use oracle::outcome::{Answer, Refusal};
 use oracle::random::runs::Script;
@@ -58,17 +59,14 @@ impl Sides {
 }
 
 impl Pair<'_> {
-    /// Puts a call to both sides; before that to the port alone with a damaged slot, where the call says so. A call with a chunk
+    /// Puts a call to both sides; before that to the port alone with a damaged table, where the call says so. A call with a chunk
     /// that K3 turns down by its own bytes is put to the port alone, and by what its slot holds to neither side.
     fn call(&mut self, call: &Call, summary: &mut Summary) -> Result<(), String> {
         if let Some((refusal, beyond)) = original::table::left_out(&self.original, call) {
             summary.leave_out(call.what.row().export, beyond);
             return if beyond.is_by_bytes() { self.call_refused(call, refusal, summary) } else { Ok(()) };
         }
-        if self.is_damaged(call) {
-            let refused = self.call_refused(call, Refusal { number: 31, value: 0 }, summary);
-            refused.map_err(|difference| format!("with the damage, {difference}"))?;
-        }
+        self.call_damaged(call, summary).map_err(|difference| format!("with the damage, {difference}"))?;
         let (expected, written) = original::table::call(&mut self.original, call);
         if matches!(call.what, What::New) && expected.refusal == 0 {
             self.renew();
@@ -79,32 +77,56 @@ impl Pair<'_> {
         }
         summary.count(call.what.row().export, answer(&call.what, found));
         summary.bytes += self.sides.table.outputs(&call.what, &written)? + self.state()?;
+        if call.lists() {
+            summary.count_open_list(Stored::ByCalls, &open::of_original(&self.original));
+        }
         if self.closely {
             summary.bytes += state::compare_rooms(&self.sides.table, &self.original)?;
         }
         Ok(())
     }
 
-    /// Damages the slot that a call reaches, where the call says so; and undoes it, done again.
-    fn damage(&mut self, call: &Call) {
-        if let Some(slot) = original::table::reached(&self.original, call) {
-            self.sides.table.damage(slot, &call.damage);
-        }
-    }
-
-    /// Is that slot not sound then?
-    fn is_damaged(&mut self, call: &Call) -> bool {
+    /// Puts a call to the port alone with a damaged table, where the call says so: an open list; or one that reaches a slot which is
+    /// not sound then.
+    fn call_damaged(&mut self, call: &Call, summary: &mut Summary) -> Result<(), String> {
         if call.damage.is_empty() {
-            return false;
+            return Ok(());
         }
-        let Some(slot) = original::table::reached(&self.original, call) else { return false };
+        if call.lists() {
+            return self.list_damaged(call, summary);
+        }
+        let Some(slot) = original::table::reached(&self.original, call) else { return Ok(()) };
         self.damage(call);
         let sound = is_sound(self.sides.table.slot_words(slot), self.sides.table.slot_records(slot));
         self.damage(call);
-        !sound
+        if sound {
+            return Ok(());
+        }
+        self.call_refused(call, Refusal { number: 31, value: 0 }, summary)
     }
 
-    /// Puts a call to the port alone, with the slot damaged where the call says so: it refuses, and leaves all lent memory as it
+    /// Damages the table as a call says; and undoes it, done again.
+    fn damage(&mut self, call: &Call) {
+        self.sides.table.damage(&call.damage);
+    }
+
+    /// An open list takes stored numbers as they are.
+    fn list_damaged(&mut self, call: &Call, summary: &mut Summary) -> Result<(), String> {
+        self.damage(call);
+        let (rows, found) = (self.sides.table.open_slots(), self.sides.table.call(call));
+        self.damage(call);
+        let mut written = Written::default();
+        let expected = Told { refusal: 0, value: 0, numbers: listed(&rows, &mut written) };
+        if found != expected {
+            return Err(format!("the reading answers {expected:?}, the port {found:?}"));
+        }
+        summary.count(call.what.row().export, answer(&call.what, found));
+        summary.count_open_list(Stored::Damaged, &rows);
+        summary.bytes += self.sides.table.outputs(&call.what, &written)? + self.state()?;
+        Ok(())
+    }
+
+    /// Puts a call to the port alone, with the table damaged where the call says so: it refuses, and leaves all lent memory as it
     /// is. K3 turns a chunk down before question 31 is asked.
     fn call_refused(&mut self, call: &Call, refusal: Refusal, summary: &mut Summary) -> Result<(), String> {
         self.damage(call);

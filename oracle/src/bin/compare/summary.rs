@@ -1,10 +1,28 @@
 //! What was compared: how often each export gave each answer, what was left out, and how many bytes.
 use oracle::beyond::Beyond;
 use oracle::export::{Export, NONE_OF_HUB, NUMBERS};
+use oracle::open::{self, By, OpenSlot};
 use oracle::outcome::Answer;
 use std::collections::{BTreeMap, BTreeSet};
 
 type Answers = BTreeMap<Answer, u64>;
+
+/// Where an open list's numbers come from: calls alone, or somebody else has written into them.
+#[derive(Clone, Copy, PartialEq, Eq, PartialOrd, Ord)]
+pub enum Stored {
+    ByCalls,
+    Damaged,
+}
+
+impl Stored {
+    /// What can put a slot of such a table ahead of another. Calls leave no two with one peer and request id.
+    fn orders(self) -> &'static [By] {
+        match self {
+            Stored::ByCalls => &[By::Tick, By::Peer, By::RequestId],
+            Stored::Damaged => &[By::Tick, By::Peer, By::RequestId, By::Place],
+        }
+    }
+}
 
 #[derive(Default)]
 pub struct Summary {
@@ -13,6 +31,10 @@ pub struct Summary {
     pub round_trips: u64,
     answers: BTreeMap<&'static str, Answers>,
     left_out: BTreeMap<(&'static str, Beyond), u64>,
+    /// How many open lists had two ticks held at 2^64 - 1.
+    held_ticks: u64,
+    /// How many had slots that stand ahead of others which lie before them, by what.
+    open_lists: BTreeMap<(Stored, By), u64>,
 }
 
 fn calls(answers: &Answers) -> u64 {
@@ -43,6 +65,39 @@ impl Summary {
     /// A call that the original would answer otherwise.
     pub fn leave_out(&mut self, export: Export, beyond: Beyond) {
         *self.left_out.entry((export.name, beyond)).or_default() += 1;
+    }
+
+    pub fn count_open_list(&mut self, stored: Stored, rows: &[OpenSlot]) {
+        let held = rows.iter().filter(|row| row.tick == u64::MAX).count();
+        self.held_ticks += u64::from(stored == Stored::ByCalls && held > 1);
+        for by in open::put_ahead(rows) {
+            *self.open_lists.entry((stored, by)).or_default() += 1;
+        }
+    }
+
+    fn listed(&self, stored: Stored, by: By) -> u64 {
+        self.open_lists.get(&(stored, by)).copied().unwrap_or(0)
+    }
+
+    /// In how many open lists a slot stands ahead of one that lies before it, by what.
+    pub fn open_lists(&self) -> String {
+        let told = |stored: Stored| {
+            let by: Vec<String> = stored.orders().iter().map(|by| format!("{by}: {}", self.listed(stored, *by))).collect();
+            by.join(", ")
+        };
+        let (by_calls, damaged, held) = (told(Stored::ByCalls), told(Stored::Damaged), self.held_ticks);
+        format!(
+            "Open lists (K7) in which a slot stands ahead of one that lies before it, by its {by_calls};\n\
+             with two ticks held at 2^64 - 1: {held}. On damaged numbers, beside a reading of them, by its {damaged}"
+        )
+    }
+
+    /// By what did no slot stand ahead of one that lies before it, where it can?
+    pub fn never_put_ahead(&self) -> Option<String> {
+        let never = |stored: Stored| stored.orders().iter().find(|by| self.listed(stored, **by) == 0);
+        let by_calls = never(Stored::ByCalls).map(|by| format!("by its {by}"));
+        let by = by_calls.or_else(|| never(Stored::Damaged).map(|by| format!("by its {by} on damaged numbers")))?;
+        Some(format!("no slot of an open list stood ahead of one that lies before it {by}"))
     }
 
     fn left_out(&self, export: Export) -> String {

@@ -4,7 +4,9 @@ use oracle::call::{What, Written};
 use oracle::damage::{Damage, Place};
 use oracle::layout::{self, CLOCK, FRAGMENT_RECORDS, HEADER_BYTES, MAX_PEERS, MAX_SLOTS, SLOT_WORDS, TX_BYTES};
 use oracle::lent::{Lent, Part};
+use oracle::open::{self, OpenSlot};
 use oracle::run::{Call, Start, Told};
+use std::fmt;
 
 /// Places behind what the largest table needs.
 const BEHIND: usize = 8;
@@ -66,14 +68,19 @@ impl Table {
         &self.index[slot * FRAGMENT_RECORDS..][..FRAGMENT_RECORDS]
     }
 
-    /// Damages a slot; and undoes it, done again.
-    pub fn damage(&mut self, slot: usize, damage: &[Damage]) {
+    /// Damages the table; and undoes it, done again.
+    pub fn damage(&mut self, damage: &[Damage]) {
         for Damage { at, bits } in damage {
             match at {
-                Place::Word(k) => self.numbers[layout::slot_at(slot) + k] ^= bits,
-                Place::Record(k) => self.index[slot * FRAGMENT_RECORDS + k] ^= bits,
+                Place::Number(k) => self.numbers[*k] ^= bits,
+                Place::Record(k) => self.index[*k] ^= bits,
             }
         }
+    }
+
+    /// Its open slots as they are stored.
+    pub fn open_slots(&self) -> Vec<OpenSlot> {
+        open::of_numbers(&self.numbers, self.start.max_peers)
     }
 
     /// Is what lies behind the largest table's rooms as it was?
@@ -168,10 +175,10 @@ fn length(start: Start, call: &Call, part: Part) -> usize {
     }
 }
 
-fn output<T: Copy + PartialEq>(name: &str, out: &mut [T], written: &[T], before: &[T]) -> Result<u64, String> {
+fn output<T: Copy + PartialEq + fmt::Debug>(name: &str, out: &mut [T], written: &[T], before: &[T]) -> Result<u64, String> {
     let n = written.len();
-    if out[..n] != *written {
-        return Err(format!("{name} does not begin with what the original gives"));
+    if let Some(at) = (0..n).find(|at| out[*at] != written[*at]) {
+        return Err(format!("{name} has {:?} at {at}, and is to have {:?}", out[at], written[at]));
     }
     if out[n..] != before[n..out.len()] {
         return Err(format!("{name} is not kept behind the first {n}"));

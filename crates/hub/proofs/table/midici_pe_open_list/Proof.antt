@@ -1,7 +1,9 @@
 use borrow.Author.Needs.{needs}
 use Rattle.hub.proofs.table.midici_pe_open_list.Statement.{statement}
 use Rattle.hub.proofs.table.midici_pe_open_list.Tie as tie
-use Rattle.hub.proofs.AnswerLaws.{lists}
+use mathlib.Core.Path.{ap}
+use Rattle.hub.specs.Table.{listedOf}
+use Rattle.hub.proofs.AnswerLaws.{leaves}
 
 abbrev called : tie.After-number-counted → tie.After-open-list
 called c = c .before .before .before .before .before .before .before
@@ -22,7 +24,7 @@ same-length-3 : tie.Need-same-length-3
 same-length-3 c = search needs
 
 returns : tie.Need-returns
-returns c = lists _ _ _ _ _ (c .number-counted .ensures) (called c .open-list .ensures)
+returns c = leaves _ _ _ (c .number-counted .ensures) (ap listedOf (called c .open-list .ensures))
 
 pub midici-pe-open-list-spec : {M : Type 1} → statement M
 midici-pe-open-list-spec =
