@@ -32,8 +32,8 @@ pub fn seven_bit(rng: &mut Rng, n: usize) -> Vec<u8> {
     bytes(rng, n).iter().map(|b| b & 0x7F).collect()
 }
 
-/// In which order the chunks of a list come, or the ticks of slots.
-#[derive(Clone, Copy, PartialEq, Eq)]
+/// In which order the chunks of a list come, or those of many slots.
+#[derive(Clone, Copy)]
 pub enum Order {
     InOrder,
     Reversed,

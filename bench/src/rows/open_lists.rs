@@ -13,7 +13,9 @@ use std::hint::black_box;
 const SLOTS: usize = slots(PEERS);
 
 pub fn each(visit: &mut impl FnMut(Row)) {
-    Order::OF_TICKS.iter().for_each(|order| visit(row(*order)));
+    for order in Order::OF_TICKS {
+        visit(row(order));
+    }
 }
 
 fn row(order: Order) -> Row {
