@@ -315,9 +315,10 @@ midici_pe_answer midici_pe_poll(midici_pe_shape shape, uint64_t *numbers, size_t
  * outputs. `count` is how many there are. The outputs have at least MIDICI_PE_PLACES(max_peers) elements; places past the
  * count keep their values. The table stays as it is.
  * Their order is lowest tick, then lowest peer, then lowest request id, then place in memory. The tick of a list is set by
- * each chunk that reaches it, also by one that is refused there, to one above the last tick: so the list that has waited
- * longest for a chunk stands on top. Ticks are held at 2^64 - 1, and then peer and request id decide. Place decides only in
- * memory that something else has written: calls leave no two open lists with the same peer and request id.
+ * each chunk that reaches it, also by one that is refused there, to one above the last tick: so the list whose last chunk
+ * came first stands on top, whatever times the calls name. Ticks are held at 2^64 - 1, and then peer and request id decide.
+ * Place decides only in memory that something else has written: calls leave no two open lists with the same peer and
+ * request id.
  * Refusals: 30, also for a short output. Everything is then as it was. */
 midici_pe_answer midici_pe_open_list(midici_pe_shape shape, const uint64_t *numbers, size_t numbers_len,
                                      uint64_t *out_peers, size_t out_peers_len, uint64_t *out_request_ids,

@@ -325,7 +325,7 @@ void test_table_runs(uint64_t seed)
         check(seen.chunks[met] > 0, met_names[met], "random runs had no chunk");
     }
     check(seen.whole_after_stray > 0, "a list is whole after a stray chunk", "random runs");
-    printf("Open lists in which a list stands ahead of one that lies before it\n");
+    printf("Open lists in which a list stands ahead of one that lies before it in memory\n");
     for (int by = 0; by < PUT_BY; by++) {
         printf("  %s: %lu\n", put_by_names[by], seen.open_lists[by]);
         check(seen.open_lists[by] > 0, put_by_names[by], "random runs had no list put ahead");

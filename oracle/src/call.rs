@@ -156,7 +156,7 @@ fn memory_stats(r: &Reassembler) -> [u64; 3] {
     [stats.reserved_bytes as u64, stats.active_bytes as u64, stats.active_slots as u64]
 }
 
-/// The original has no such call: the rows are read from its private fields.
+/// The rows of an open list in its columns: how many there are.
 pub fn listed(rows: &[OpenSlot], written: &mut Written) -> [u64; 3] {
     for row in rows {
         written.peers.push(row.peer);

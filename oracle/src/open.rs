@@ -16,7 +16,7 @@ pub struct OpenSlot {
     pub held: u64,
 }
 
-/// What puts a row ahead of another.
+/// What decides between two rows.
 #[derive(Clone, Copy, Debug, PartialEq, Eq, PartialOrd, Ord)]
 pub enum By {
     Tick,
@@ -36,7 +36,7 @@ impl fmt::Display for By {
     }
 }
 
-/// The rows of the original's slots.
+/// The rows of the original's slots; it has no such call.
 pub fn of_original(r: &Reassembler) -> Vec<OpenSlot> {
     let row = |place: usize| {
         let (p, s) = (place / PEER_SLOTS, place % PEER_SLOTS);
@@ -64,19 +64,22 @@ fn sorted(rows: impl Iterator<Item = OpenSlot>) -> Vec<OpenSlot> {
 }
 
 impl OpenSlot {
-    fn ahead_by(&self, other: &OpenSlot) -> By {
-        match other {
-            _ if self.tick != other.tick => By::Tick,
-            _ if self.peer != other.peer => By::Peer,
-            _ if self.request_id != other.request_id => By::RequestId,
-            _ => By::Place,
+    fn decided_by(&self, other: &OpenSlot) -> By {
+        if self.tick != other.tick {
+            By::Tick
+        } else if self.peer != other.peer {
+            By::Peer
+        } else if self.request_id != other.request_id {
+            By::RequestId
+        } else {
+            By::Place
         }
     }
 }
 
-/// By what rows stand ahead of others that lie before them in memory; and place, where nothing else decides between two.
-pub fn put_ahead(rows: &[OpenSlot]) -> BTreeSet<By> {
+/// What decided between two rows, against their places; and place, where all else is equal.
+pub fn deciding(rows: &[OpenSlot]) -> BTreeSet<By> {
     let pairs = rows.iter().enumerate().flat_map(|(k, row)| rows[k + 1..].iter().map(move |behind| (row, behind)));
-    let by = pairs.map(|(row, behind)| (row.ahead_by(behind), row.place > behind.place));
+    let by = pairs.map(|(row, behind)| (row.decided_by(behind), row.place > behind.place));
     by.filter(|(by, is_moved)| *is_moved || *by == By::Place).map(|(by, _)| by).collect()
 }

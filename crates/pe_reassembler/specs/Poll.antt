@@ -9,7 +9,7 @@ use Rattle.seven_bit.specs.Reply.{Reply, granted, refused}
 use Rattle.pe_slot.specs.Layout.{requestIdAt, lastActivityAt, lruTickAt}
 use Rattle.pe_reassembler.specs.declared.shape.Shape.{Shape}
 use Rattle.pe_reassembler.specs.Calls.{closeAt}
-use Rattle.pe_reassembler.specs.Order.{inOrder}
+use Rattle.pe_reassembler.specs.Order.{ranked}
 use Rattle.pe_reassembler.specs.Table.{hasNumbers, isActive, peerAt, slotAt, rowsFrom}
 
 -- An open slot whose time is up.
@@ -53,7 +53,7 @@ polled answer numbers out-peers out-ids = record { answer = answer; numbers = nu
 unfoldable pub pollCall : Shape → List ℕ → ℕ → List ℕ → List ℕ → Polled
 pollCall shape numbers now-ms out-peers out-ids =
     cond (hasNumbers shape numbers && leb (4 * shape .«max_peers») (length out-peers) && leb (4 * shape .«max_peers») (length out-ids))
-    (let due = inOrder byTick [] (dueFrom numbers now-ms 0 0 (4 * shape .«max_peers»)) in
+    (let due = ranked byTick [] (dueFrom numbers now-ms 0 0 (4 * shape .«max_peers»)) in
     polled (granted (length due))
     (closeDue now-ms 0 0 (4 * shape .«max_peers») numbers)
     (map (λ (t : Timeout). t .peer) due ++ drop (length due) out-peers)

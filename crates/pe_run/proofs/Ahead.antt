@@ -14,7 +14,7 @@ use Rattle.pe_frame.specs.Chunk.{Chunk, Fields, readFields, chunkOf, readChunk}
 use Rattle.pe_frame.proofs.RoundTrip.{read-in-range}
 use Rattle.pe_reassembler.specs.Table.{inRange, numbersLen, hasNumbers, hasRooms, isMuid}
 use Rattle.pe_reassembler.specs.Feed.{FeedLeft, feedLeft, atTable, chunkRead, hasAll, feedCall, messageRead, messageCall}
-use Rattle.pe_reassembler.specs.Order.{inOrder}
+use Rattle.pe_reassembler.specs.Order.{ranked}
 use Rattle.pe_reassembler.specs.Poll.{Timeout, dueFrom, byTick, closeDue, polled, pollCall}
 use Rattle.pe_reassembler.specs.Open.{openRows, listed, listedRows, openCall}
 use Rattle.pe_reassembler.specs.declared.shape.Shape.{Shape}
@@ -79,7 +79,7 @@ module _ (shape : Shape) (t : Table) (ok : LongFor shape t) where
   pub poll-ahead : (now-ms : ℕ) (out-peers out-ids : List ℕ)
       → pollCall shape (t .numbers) now-ms out-peers out-ids
       ≡ cond (hasPlaces (shape .«max_peers») out-peers && hasPlaces (shape .«max_peers») out-ids)
-      (let due : List Timeout = inOrder byTick [] (dueFrom (t .numbers) now-ms 0 0 (4 * shape .«max_peers»)) in
+      (let due : List Timeout = ranked byTick [] (dueFrom (t .numbers) now-ms 0 0 (4 * shape .«max_peers»)) in
       polled (granted (length due)) (closeDue now-ms 0 0 (4 * shape .«max_peers») (t .numbers))
       (map (λ (r : Timeout). r .peer) due ++ drop (length due) out-peers)
       (map (λ (r : Timeout). r .request-id) due ++ drop (length due) out-ids))

@@ -14,7 +14,8 @@ use Rattle.pe_frame.specs.Chunk.{Chunk}
 use Rattle.pe_reassembler.specs.Feed.{nextTick}
 use Rattle.pe_reassembler.specs.declared.shape.Shape.{Shape}
 use Rattle.pe_run.specs.Lists.{keep}
-use Rattle.pe_run.specs.Model.{Open, Entry, Model, Clocked, isAt, isOf, isLate, find, isNone, openOf, peersOpen, findsRecord, hasFour, touchedAt, judged, entryOf, without, arrived, arrives, Act, arrive, cancel, drop, poll, nothing, acted}
+use Rattle.pe_run.specs.Model.{Open, Entry, Model, Clocked, isAt, isOf, isLate, find, isNone, openOf, peersOpen, findsRecord, hasFour, touchedAt}
+use Rattle.pe_run.specs.Model.{judged, entryOf, without, arrived, arrives, Act, arrive, cancel, drop, poll, nothing, acted}
 use Rattle.pe_run.specs.Demand.{Room, Spared}
 use Rattle.pe_run.proofs.ModelLaws.{reachedOpen, arrives-keeps}
 use Rattle.pe_run.proofs.ListLaws.{eqb-self, eqb-sym, never}
@@ -109,7 +110,7 @@ module _ (p i : ℕ) (b : Clocked) (o : Open) (f : find p i (b .model) ≡ some 
       → find p i (arrives shape b q c now-ms .left .model) ≡ some o
   find-arrives shape q c now-ms h =
       arrives-keeps shape b q c now-ms (λ (m : Model). find p i m ≡ some o) f (λ e.
-      find-done q (c .request-id) (judged shape (reachedOpen shape b q c now-ms) c .left) h)
+      find-done q (c .request-id) (judged shape (reachedOpen b q c now-ms) c .left) h)
 
   -- Any other act leaves it open, and what is spared then is spared now.
   pub find-acted : (shape : Shape) (a : Act) (acts : List Act) → isArrival p i a ≡ false → Spared p i (o .time) (a ∷ acts)

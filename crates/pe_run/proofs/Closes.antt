@@ -106,7 +106,9 @@ drop-rel {n} {v} {b} rel peer = go (view (isOwn peer) (v .recs))
       fours = rel .fours;
       tidy = rel .tidy;
       clock-is = rel .clock-is;
-      same = subst (λ (l : Model). Perm l (keep others (b .model))) (away-drop peer (opens v) (apart-away peer (v .recs) (rel .tidy) a)) (perm-keep others (rel .same));
+      same =
+          subst (λ (l : Model). Perm l (keep others (b .model))) (away-drop peer (opens v) (apart-away peer (v .recs) (rel .tidy) a))
+          (perm-keep others (rel .same));
       unique = unique-keep (λ (e : Entry). not (isOf peer e)) (b .model) (rel .unique);
     })
     go (inr s) = rw (split-onFirst s dropRec) (record {

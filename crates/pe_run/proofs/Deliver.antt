@@ -47,7 +47,8 @@ module _ (n peer request-id m : ℕ) (header body : List ℕ) where
   tells answer a = fed (toldAnswer answer) (outHeader answer (a .out-header)) (outBody answer (a .out-body))
 
   -- one of ours, at a slot that holds what has come
-  module _ (calls : List Call) (b : Clocked) (held : List Chunk) (c : Call) (k : Carrying full peer request-id c) (count : ℕ) (told : Answer) (more : List Answer)
+  module _ (calls : List Call) (b : Clocked) (held : List Chunk) (c : Call) (k : Carrying full peer request-id c) (count : ℕ) (told : Answer)
+      (more : List Answer)
       (g : Good header body m (held ++ k .arrival .chunk ∷ carried (mine calls)))
       (known : (eqb count 0 || eqb count m) ≡ true)
       (here : arrives full b (k .arrival .peer) (k .arrival .chunk) (k .arrival .time)
@@ -136,7 +137,8 @@ module _ (n peer request-id m : ℕ) (header body : List ℕ) where
           let p = find-acted peer request-id b (openAt last tick (slotWith header m held)) f full (actOf full c) (map (actOf full) calls)
           (act-other full peer request-id c u) s in
           let q = ours-other full peer request-id c calls u in
-          rw u (ih (acted full b (actOf full c)) held last tick told (subst (λ (l : List Arrival). Good header body m (held ++ carried l)) q g) (p .0) (p .1) (r .1))
+          rw u (ih (acted full b (actOf full c)) held last tick told
+          (subst (λ (l : List Arrival). Good header body m (held ++ carried l)) q g) (p .0) (p .1) (r .1))
           ∙ ap (delivered header body) (sym q)
 
 -- Every chunk but the last is answered waiting, and the last hands out header and body.
@@ -179,5 +181,5 @@ deliver n b peer request-id header body limit first rest (a ∷ told) d r =
     here =
         arrive-new (fullSize n) (k .arrival .peer) b (k .arrival .chunk) (k .arrival .time)
         (subst (λ (p : ℕ). Room n p (k .arrival .chunk .request-id) (b .model)) peer-eq (subst (λ (i : ℕ). Room n peer i (b .model)) id-eq (d .room)))
-        ∙ ap₂ (λ (p i : ℕ). arrived p i b (judged (fullSize n) (openAt (k .arrival .time) (nextTick (b .clock)) (slotWith header 0 [])) (k .arrival .chunk))) (sym peer-eq)
-        (sym id-eq)
+        ∙ ap₂ (λ (p i : ℕ). arrived p i b (judged (fullSize n) (openAt (k .arrival .time) (nextTick (b .clock)) (slotWith header 0 [])) (k .arrival .chunk)))
+        (sym peer-eq) (sym id-eq)

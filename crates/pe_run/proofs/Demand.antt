@@ -1,5 +1,5 @@
--- Demand 3, proved: every answer of every run is the model's, no peer has more than four open, no two slots share peer and id, and a list whose
--- chunks arrive is handed out.
+-- Demand 3, proved: every answer of every run is the model's, no peer has more than four open, no two open slots share peer and id, and a list
+-- whose chunks arrive is handed out.
 -- Assumes nothing.
 use Prim.Native.Nat.{ℕ, _+_, _≤_}
 use mathlib.Core.Bool.{true, _&&_}
@@ -23,7 +23,7 @@ use Rattle.pe_run.specs.Lists.{tally}
 use Rattle.pe_run.specs.Model.{Model, Clocked, start, isOf, find, acted}
 use Rattle.pe_run.specs.Calls.{Call, Answer, actOf, modelFrom, modelAfter, shownOf, AllRight}
 use Rattle.pe_run.specs.Run.{Table, LongFor, made, step, tableFrom, Run}
-use Rattle.pe_run.specs.Demand.{fullSize, CutInto, Apart, Demand}
+use Rattle.pe_run.specs.Demand.{fullSize, CutInto, NoneTwice, Demand}
 use Rattle.pe_run.proofs.Value.{valueOf, opens}
 use Rattle.pe_run.proofs.ModelLaws.{find-none-head, find-none-tail, Unique, perm-unique, Four, four-step}
 use Rattle.pe_run.proofs.PermLaws.{perm-sym}
@@ -44,7 +44,7 @@ none-shown : (peer id : ℕ) (b : Model) → find peer id b ≡ none → tally (
 none-shown peer id [] h = refl
 none-shown peer id (e ∷ b) h = rw (find-none-head peer id e b h) (none-shown peer id b (find-none-tail peer id e b h))
 
-apart-shown : (b : Model) → Unique b → Apart (map shownOf b)
+apart-shown : (b : Model) → Unique b → NoneTwice (map shownOf b)
 apart-shown [] u = tt
 apart-shown (e ∷ b) u = (none-shown (e .peer) (e .request-id) b (u .0), apart-shown b (u .1))
 
@@ -83,7 +83,7 @@ module _ (shape : Shape) where
       (four-open (k .rel) (four-all start calls (λ p. omega arith)) peer)
 
   -- no two open slots share peer and request id
-  pub slots-apart : (t : Table) → LongFor shape t → (calls : List Call) → Apart (openSlots shape (tableFrom shape (made shape t) calls .numbers))
+  pub slots-apart : (t : Table) → LongFor shape t → (calls : List Call) → NoneTwice (openSlots shape (tableFrom shape (made shape t) calls .numbers))
   slots-apart t long calls =
       let k = kept-all (made shape t) start calls (kept-new shape t long) in
       rw (open-rows shape (tableFrom shape (made shape t) calls) (k .long) (k .sound))

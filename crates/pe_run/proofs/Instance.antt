@@ -149,7 +149,11 @@ torn-refused = rw outputs-long refl
 -- ---- what is open when the first of them comes
 abbrev pub entry : ℕ → ℕ → ℕ → ℕ → Option (List ℕ) → ℕ → List Piece → Entry
 entry peer request-id time tick header count pieces =
-    record { peer = peer; request-id = request-id; state = record { time = time; tick = tick; slot = record { header = header; count = count; pieces = pieces } } }
+    record {
+      peer = peer;
+      request-id = request-id;
+      state = record { time = time; tick = tick; slot = record { header = header; count = count; pieces = pieces } };
+    }
 
 abbrev pub piece : ℕ → List ℕ → Piece
 piece number bytes = record { number = number; bytes = bytes }
@@ -158,8 +162,8 @@ abbrev pub open-before : Model
 open-before = entry 9 6 10 3 (some []) 3 (piece 1 (9 ∷ []) ∷ []) ∷ entry 8 5 0 2 (some []) 3 (piece 1 (9 ∷ []) ∷ []) ∷ []
 
 pub before-is : modelAfter (fullSize 2) before ≡ clocked 3 open-before
-unfolding nextTick arrives findsRecord hasFour judged judge headerFits headerAgrees sameHeader withinCount heldWithin countAgrees newHeader newCount noneKnown held
-    bodyLen afterChunk passed isWhole allHeld eventOf
+unfolding nextTick arrives findsRecord hasFour judged judge headerFits headerAgrees sameHeader withinCount heldWithin countAgrees newHeader newCount
+    noneKnown held bodyLen afterChunk passed isWhole allHeld eventOf
 before-is = rw (arrives-before-8, arrives-before-9) refl
 
 instance-room : Room 2 9 5 (modelAfter (fullSize 2) before .model)

@@ -15,7 +15,7 @@ use Rattle.pe_slot.specs.Feed.{toldAnswer, outHeader, outBody}
 use Rattle.pe_reassembler.specs.Calls.{reservedOf}
 use Rattle.pe_reassembler.specs.Feed.{nextTick}
 use Rattle.pe_reassembler.specs.Open.{ahead}
-use Rattle.pe_reassembler.specs.Order.{putIn, inOrder as rowsInOrder}
+use Rattle.pe_reassembler.specs.Order.{putIn, ranked}
 use Rattle.pe_reassembler.specs.Poll.{Timeout}
 use Rattle.pe_reassembler.specs.Table.{numbersLen}
 use Rattle.pe_run.specs.Lists.{keep}
@@ -120,7 +120,7 @@ unfolding nextTick arrives findsRecord hasFour judged judge headerFits headerAgr
 takes-last = refl
 
 told-from : Gives (clocked 3 open-before) (firstCall ∷ rest) answers
-unfolding reservedOf bodyLen rowsInOrder putIn ahead
+unfolding reservedOf bodyLen ranked putIn ahead
 told-from =
     next-chunk (bearing 9 two 100) (clocked 4 (ours-open ∷ open-before)) (granted waiting) (ap grantedOf arrives-first) takes-first
     (next-chunk (bearing 8 (other 5 2) 150) (clocked 5 open-two) (granted waiting) (ap grantedOf arrives-8) takes-8

@@ -10,7 +10,7 @@ use Rattle.seven_bit.proofs.ReplyLaws.{and-told}
 use Rattle.pe_reassembler.specs.declared.shape.Shape.{Shape}
 use Rattle.pe_reassembler.specs.Table.{inRange, hasNumbers}
 use Rattle.pe_reassembler.specs.Calls.{statsCall, reservedCall}
-use Rattle.pe_reassembler.specs.Order.{inOrder}
+use Rattle.pe_reassembler.specs.Order.{ranked}
 use Rattle.pe_reassembler.specs.Poll.{Timeout, dueFrom, byTick, closeDue, Polled, polled}
 use Rattle.pe_reassembler.specs.Open.{Shown, ahead, openRows}
 use Rattle.pe_reassembler.proofs.OrderLaws.{order-ascending}
@@ -31,7 +31,7 @@ module _ (shape : Shape) (t : Table) (b : Clocked) (long : LongFor shape t) (ord
   -- ---- poll
   module _ (now-ms : ℕ) (out-peers out-ids : List ℕ) where
     abbrev due : List Timeout
-    due = inOrder byTick [] (dueFrom (t .numbers) now-ms 0 0 (4 * shape .«max_peers»))
+    due = ranked byTick [] (dueFrom (t .numbers) now-ms 0 0 (4 * shape .«max_peers»))
 
     due-once : Perm due (map dueOf (keep (isLate now-ms) (b .model)))
     due-once =
@@ -62,7 +62,7 @@ module _ (shape : Shape) (t : Table) (b : Clocked) (long : LongFor shape t) (ord
     rows-shown : openRows shape (t .numbers) ≡ shows (b .model)
     unfolding openRows
     rows-shown =
-        ap (λ (l : List Shown). inOrder ahead [] l) (open-rows shape t long sound) ∙ shown-same order (perm-unique (perm-sym order) unique) []
+        ap (λ (l : List Shown). ranked ahead [] l) (open-rows shape t long sound) ∙ shown-same order (perm-unique (perm-sym order) unique) []
 
     pub list-right : (out-peers out-ids out-held : List ℕ) (a : Answer) → Answers shape t (open-list out-peers out-ids out-held) a
         → Right shape b (open-list out-peers out-ids out-held) a

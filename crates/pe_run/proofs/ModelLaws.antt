@@ -15,7 +15,8 @@ use Rattle.pe_frame.specs.Chunk.{Chunk}
 use Rattle.pe_reassembler.specs.Feed.{nextTick}
 use Rattle.pe_reassembler.specs.declared.shape.Shape.{Shape}
 use Rattle.pe_run.specs.Lists.{keep, tally, Perm, empty, skip, swap, then}
-use Rattle.pe_run.specs.Model.{Open, Entry, Model, Clocked, isAt, isOf, isLate, find, findsRecord, hasFour, touchedAt, judged, entryOf, without, Arrived, arrived, arrives, Act, arrive, cancel, drop, poll, nothing, acted}
+use Rattle.pe_run.specs.Model.{Open, Entry, Model, Clocked, isAt, isOf, isLate, find, findsRecord, hasFour, touchedAt, judged, entryOf}
+use Rattle.pe_run.specs.Model.{without, Arrived, arrived, arrives, Act, arrive, cancel, drop, poll, nothing, acted}
 use Rattle.pe_run.proofs.ListLaws.{eqb-sym, tally-keep}
 
 -- ---- finding
@@ -112,16 +113,16 @@ pub unique-arrived : (peer id : ℕ) (b : Model) (o : Option Open) → Unique b 
 unique-arrived peer id b none u = unique-keep (λ (e : Entry). not (isAt peer id e)) b u
 unique-arrived peer id b (some x) u = (find-without peer id b, unique-keep (λ (e : Entry). not (isAt peer id e)) b u)
 
+-- what is open in the slot that a chunk reaches
+abbrev pub reachedOpen : Clocked → ℕ → Chunk → ℕ → Open
+reachedOpen b peer c now-ms = touchedAt (find peer (c .request-id) (b .model)) now-ms (nextTick (b .clock))
+
 -- what a chunk does: it is refused by 7 or 6, or it reaches its slot
 module _ (shape : Shape) (b : Clocked) (peer : ℕ) (c : Chunk) (now-ms : ℕ) where
-  -- what is open in its slot then
-  abbrev pub reachedOpen : Open
-  reachedOpen = touchedAt (find peer (c .request-id) (b .model)) now-ms (nextTick (b .clock))
-
   abbrev Reaches : Type 0
   Reaches =
       (hasFour peer (c .request-id) (b .model) ≡ false)
-      × (arrives shape b peer c now-ms ≡ arrived peer (c .request-id) b (judged shape reachedOpen c))
+      × (arrives shape b peer c now-ms ≡ arrived peer (c .request-id) b (judged shape (reachedOpen b peer c now-ms) c))
 
   arrives-cases : (arrives shape b peer c now-ms ≡ record { left = b; answer = refused 7 0 })
       ⊎ ((arrives shape b peer c now-ms ≡ record { left = b; answer = refused 6 0 }) ⊎ Reaches)
@@ -139,7 +140,7 @@ module _ (shape : Shape) (b : Clocked) (peer : ℕ) (c : Chunk) (now-ms : ℕ) w
   -- what holds of the model, and of it with what a chunk leaves, holds after a chunk
   pub arrives-keeps : (P : Model → Type 0) → P (b .model)
       → (hasFour peer (c .request-id) (b .model) ≡ false
-      → P (entryOf peer (c .request-id) (judged shape reachedOpen c .left) ++ without peer (c .request-id) (b .model)))
+      → P (entryOf peer (c .request-id) (judged shape (reachedOpen b peer c now-ms) c .left) ++ without peer (c .request-id) (b .model)))
       → P (arrives shape b peer c now-ms .left .model)
   arrives-keeps P same changed = go arrives-cases
     where
@@ -188,7 +189,7 @@ four-arrived peer id b (some y) h e other = go (both (eqb other peer)) (find pee
 pub four-step : (shape : Shape) (b : Clocked) (act : Act) → Four (b .model) → Four (acted shape b act .model)
 four-step shape b (arrive peer c now-ms) h =
     arrives-keeps shape b peer c now-ms Four h
-    (λ e. four-arrived peer (c .request-id) (b .model) (judged shape (reachedOpen shape b peer c now-ms) c .left) h e)
+    (λ e. four-arrived peer (c .request-id) (b .model) (judged shape (reachedOpen b peer c now-ms) c .left) h e)
 four-step shape b (cancel peer id) h = four-keep (λ (e : Entry). not (isAt peer id e)) (b .model) h
 four-step shape b (drop peer) h = four-keep (λ (e : Entry). not (isOf peer e)) (b .model) h
 four-step shape b (poll now-ms) h = four-keep (λ (e : Entry). not (isLate now-ms e)) (b .model) h

@@ -1,16 +1,18 @@
 -- Rows in an order are the same rows in another order; and where no two may change places, it does not matter in which they came.
 -- Assumes nothing.
-use mathlib.Core.Bool.{Bool, true, false, cond, _&&_}
+use Prim.Native.Nat.{ℕ}
+use mathlib.Core.Bool.{Bool, true, false, cond}
 use mathlib.Core.List.{List, [], _∷_, _++_, map, append-nil}
 use mathlib.Core.Logic.{_⊎_, inl, inr}
 use mathlib.Core.Path.{_≡_, refl, sym, ap, _∙_, subst}
 use native.Mathlib.Omega.{arith}
 use borrow.Author.Tests.{le-leb, leb-true, leb-false, eq-eqb}
 use Rattle.seven_bit.proofs.ReplyLaws.{both}
-use Rattle.pe_reassembler.specs.Open.{Shown, ahead}
-use Rattle.pe_reassembler.specs.Order.{putIn, inOrder}
+use Rattle.pe_reassembler.specs.declared.shape.Shape.{Shape}
+use Rattle.pe_reassembler.specs.Open.{Shown, ahead, openSlots, openRows}
+use Rattle.pe_reassembler.specs.Order.{putIn, ranked, Ascending}
 use Rattle.pe_reassembler.specs.Poll.{byTick}
-use Rattle.pe_reassembler.proofs.OrderLaws.{Ranks}
+use Rattle.pe_reassembler.proofs.OrderLaws.{Ranks, order-ascending}
 use Rattle.pe_reassembler.proofs.AheadLaws.{ahead-ranks, ahead-both}
 use Rattle.pe_run.specs.Lists.{Perm, empty, skip, swap, then}
 use Rattle.pe_run.specs.Model.{Entry, Model, isAt}
@@ -29,13 +31,13 @@ module _ {A : Type 0} (test : A → A → Bool) where
       go true p = then (skip p) swap
       go false p = perm-refl (r ∷ u ∷ us)
 
-  order-onto : (done rs : List A) → Perm (inOrder test done rs) (done ++ rs)
-  unfolding inOrder
+  order-onto : (done rs : List A) → Perm (ranked test done rs) (done ++ rs)
+  unfolding ranked
   order-onto done [] = subst (λ (l : List A). Perm done l) (sym (append-nil done)) (perm-refl done)
   order-onto done (r ∷ rs) =
       then (order-onto (putIn test r done) rs) (then (perm-append-right rs (put-perm r done)) (perm-sym (perm-middle r done rs)))
 
-  pub order-perm : (rs : List A) → Perm (inOrder test [] rs) rs
+  pub order-perm : (rs : List A) → Perm (ranked test [] rs) rs
   order-perm rs = order-onto [] rs
 
   -- behind one that may stand ahead, and ahead of one that may not
@@ -82,6 +84,15 @@ tick-ranks =
     }
 
 -- ---- an open list's rows
+-- Whatever the numbers hold: each open slot once, and each row may stand ahead of all behind it.
+pub each-open-once : (shape : Shape) (numbers : List ℕ) → Perm (openRows shape numbers) (openSlots shape numbers)
+unfolding openRows
+each-open-once shape numbers = order-perm ahead (openSlots shape numbers)
+
+pub open-ascending : (shape : Shape) (numbers : List ℕ) → Ascending ahead (openRows shape numbers)
+unfolding openRows
+open-ascending shape numbers = order-ascending ahead ahead-ranks [] (openSlots shape numbers) tt
+
 -- two entries under another peer or id
 swap-shown : (x y : Entry) → isAt (x .peer) (x .request-id) y ≡ false → (done : List Shown)
     → putIn ahead (shownOf y) (putIn ahead (shownOf x) done) ≡ putIn ahead (shownOf x) (putIn ahead (shownOf y) done)
@@ -97,10 +108,10 @@ swap-shown x y apart done = go (both (ahead (shownOf x) (shownOf y))) (both (ahe
     go (inl e) (inr f) = put-both ahead ahead-ranks (shownOf x) (shownOf y) e f done
     go (inr e) f = sym (put-both ahead ahead-ranks (shownOf y) (shownOf x) (ahead-ranks .either (shownOf x) (shownOf y) e) e done)
 
-pub shown-same : {b d : Model} → Perm b d → Unique b → (done : List Shown) → inOrder ahead done (map shownOf b) ≡ inOrder ahead done (map shownOf d)
-unfolding inOrder
+pub shown-same : {b d : Model} → Perm b d → Unique b → (done : List Shown) → ranked ahead done (map shownOf b) ≡ ranked ahead done (map shownOf d)
+unfolding ranked
 shown-same empty u done = refl
 shown-same (skip {x = x} p) u done = shown-same p (u .1) (putIn ahead (shownOf x) done)
 shown-same (swap {x = x} {y = y} {xs = xs}) u done =
-    ap (λ (l : List Shown). inOrder ahead l (map shownOf xs)) (swap-shown x y (find-none-head (x .peer) (x .request-id) y xs (u .0)) done)
+    ap (λ (l : List Shown). ranked ahead l (map shownOf xs)) (swap-shown x y (find-none-head (x .peer) (x .request-id) y xs (u .0)) done)
 shown-same (then p q) u done = shown-same p u done ∙ shown-same q (perm-unique p u) done

@@ -71,8 +71,8 @@ Read nothing = Unit {0}
 step-none : (shape : Shape) (b : Clocked) (act : Act) → Read act → NoStrays (b .model) → NoStrays (acted shape b act .model)
 step-none shape b (arrive peer c now-ms) w a =
     arrives-keeps shape b peer c now-ms NoStrays a (λ e.
-    all-append _ (entryOf peer (c .request-id) (judged shape (reachedOpen shape b peer c now-ms) c .left)) (without peer (c .request-id) (b .model))
-    (left shape peer (c .request-id) (reachedOpen shape b peer c now-ms) c w (reached peer (c .request-id) now-ms (nextTick (b .clock)) (b .model) a))
+    all-append _ (entryOf peer (c .request-id) (judged shape (reachedOpen b peer c now-ms) c .left)) (without peer (c .request-id) (b .model))
+    (left shape peer (c .request-id) (reachedOpen b peer c now-ms) c w (reached peer (c .request-id) now-ms (nextTick (b .clock)) (b .model) a))
     (kept (λ (y : Entry). not (isAt peer (c .request-id) y)) (b .model) a))
 step-none shape b (cancel peer id) w a = kept (λ (e : Entry). not (isAt peer id e)) (b .model) a
 step-none shape b (drop peer) w a = kept (λ (e : Entry). not (isOf peer e)) (b .model) a

@@ -16,7 +16,8 @@ use Rattle.pe_frame.specs.Chunk.{Chunk}
 use Rattle.pe_reassembler.specs.declared.shape.Shape.{Shape}
 use Rattle.pe_reassembler.specs.Feed.{nextTick}
 use Rattle.pe_run.specs.Lists.{tally, Perm, then}
-use Rattle.pe_run.specs.Model.{Open, Model, Clocked, find, isNone, openOf, peersOpen, findsRecord, hasFour, touchedAt, Judged, judged, entryOf, without, Arrived, arrived, arrives}
+use Rattle.pe_run.specs.Model.{Open, Model, Clocked, find, isNone, openOf, peersOpen, findsRecord, hasFour}
+use Rattle.pe_run.specs.Model.{touchedAt, Judged, judged, entryOf, without, Arrived, arrived, arrives}
 use Rattle.pe_run.specs.Demand.{Room}
 use Rattle.pe_run.proofs.ListLaws.{NoneOf, all-first, all-second, tally-all}
 use Rattle.pe_run.proofs.PermLaws.{perm-sym}

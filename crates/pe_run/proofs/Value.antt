@@ -151,6 +151,7 @@ unfoldable pub takes : Shape → Value → ℕ → Chunk → ℕ → Taken
 takes shape v peer c now-ms = takeAt shape v peer c now-ms (choose peer (v .recs))
 
 -- ---- the calls that close
+-- closed: nothing of what a cell was stays that an answer shows
 abbrev pub shut : Cell → Cell
 shut c = noCell
 

@@ -10,7 +10,6 @@ use lib.Dec.{leb, eqb}
 use lib.ListN.{getD}
 use Rattle.seven_bit.specs.Reply.{refused}
 use Rattle.pe_slot.specs.Layout.{slotWords, activeAt, lastActivityAt}
-use Rattle.pe_slot.specs.Memory.{slotOf, contents}
 use Rattle.pe_reassembler.specs.Table.{slotAt}
 use Rattle.pe_reassembler.specs.Poll.{Polled, polled as polledInto, isDue, closeDue, pollCall}
 use Rattle.pe_reassembler.proofs.PlaceLaws.{get-part}

@@ -75,7 +75,8 @@ module _ (shape : Shape) (words index header arena : List ℕ)
 
   -- what a slot holds is what its cell is opened with
   held-slot : (now-ms tick : ℕ)
-      → touchedAt (cellOf words index header arena .state) now-ms tick ≡ record { time = now-ms; tick = tick; slot = contents (slotOf words) index header arena }
+      → touchedAt (cellOf words index header arena .state) now-ms tick
+      ≡ record { time = now-ms; tick = tick; slot = contents (slotOf words) index header arena }
   unfolding cellOf
   held-slot now-ms tick = go (both (eqb (getD words activeAt 0) 0))
     where
@@ -96,7 +97,8 @@ module _ (shape : Shape) (words index header arena : List ℕ)
 cell-left : (closes : Bool) (t : TxSlot) (c : Chunk) (v : Verdict) (request-id now-ms tick : ℕ) (index header arena : List ℕ) (s : Slot)
     → (let g : TxSlot = grown (touched t request-id now-ms tick) c v in
     (closes ≡ false → contents (slotOf (wordsOf (cond closes (closedSlot g) g))) index header arena ≡ s)
-    → cellOf (wordsOf (cond closes (closedSlot g) g)) index header arena ≡ cellWith request-id (cond closes none (some (record { time = now-ms; tick = tick; slot = s }))))
+    → cellOf (wordsOf (cond closes (closedSlot g) g)) index header arena
+    ≡ cellWith request-id (cond closes none (some (record { time = now-ms; tick = tick; slot = s }))))
 unfolding cellOf
 cell-left true t c v request-id now-ms tick index header arena s e = refl
 cell-left false t c v request-id now-ms tick index header arena s e = rw (opened (t .active), e refl)

@@ -16,7 +16,7 @@ use Rattle.pe_reassembler.specs.declared.shape.Shape.{Shape}
 use Rattle.pe_reassembler.specs.Table.{isMuid}
 use Rattle.pe_reassembler.specs.Calls.{Totals, reservedOf}
 use Rattle.pe_reassembler.specs.Open.{Shown, ahead, Listed, listed as listing, listedRows}
-use Rattle.pe_reassembler.specs.Order.{inOrder, Ascending}
+use Rattle.pe_reassembler.specs.Order.{ranked, Ascending}
 use Rattle.pe_reassembler.specs.Poll.{Timeout, byTick}
 use Rattle.pe_run.specs.Lists.{keep, Perm}
 use Rattle.pe_run.specs.Model.{Entry, Model, Clocked, start, isLate, find, isNone, openOf, arrives, Act, arrive, cancel as cancelled, drop as dropped}
@@ -139,10 +139,11 @@ abbrev pub bytesOpen : Model → ℕ
 bytesOpen [] = 0
 bytesOpen (e ∷ b) = entryBytes e + bytesOpen b
 
--- A slot whose time is up, as a poll lists it: rows "by tick", those of one tick in any order, each once, and the columns with them.
+-- A slot whose time is up, as a poll lists it.
 abbrev pub dueOf : Entry → Timeout
 dueOf e = record { tick = e .state .tick; peer = e .peer; request-id = e .request-id }
 
+-- Rows "by tick", each once, and the columns with them. Those of one tick, which "then by place" puts in order, may be in any: the model has no places.
 pub record TimedOut (b : Model) (now-ms : ℕ) (out-peers out-ids : List ℕ) (a : Answer) : Type 0 where
   pub rows : List Timeout
   pub each-once : Perm rows (map dueOf (keep (isLate now-ms) b))
@@ -157,7 +158,7 @@ abbrev pub shownOf : Entry → Shown
 shownOf e = record { tick = e .state .tick; peer = e .peer; request-id = e .request-id; held = length (e .state .slot .pieces) }
 
 abbrev pub shows : Model → List Shown
-shows b = inOrder ahead [] (map shownOf b)
+shows b = ranked ahead [] (map shownOf b)
 
 abbrev pub listTold : Listed → Answer
 listTold l = listed (l .answer) (l .out-peers) (l .out-ids) (l .out-held)

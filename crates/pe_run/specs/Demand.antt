@@ -105,9 +105,9 @@ pub record Delivery (n : ℕ) (b : Model) (peer request-id : ℕ) (header body :
   pub spared : Spared peer request-id 0 (map (actOf (fullSize n)) (first ∷ rest))
 
 -- No two rows share peer and request id.
-abbrev pub Apart : List Shown → Type 0
-Apart [] = Unit {0}
-Apart (r ∷ rows) = (tally (λ (u : Shown). eqb (r .peer) (u .peer) && eqb (r .request-id) (u .request-id)) rows ≡ 0) × Apart rows
+abbrev pub NoneTwice : List Shown → Type 0
+NoneTwice [] = Unit {0}
+NoneTwice (r ∷ rows) = (tally (λ (u : Shown). eqb (r .peer) (u .peer) && eqb (r .request-id) (u .request-id)) rows ≡ 0) × NoneTwice rows
 
 -- Of every run on a full-size table of n peers that `new` has just made of memory t:
 pub record Demand3 (n : ℕ) (t : Table) : Type 0 where
@@ -117,7 +117,7 @@ pub record Demand3 (n : ℕ) (t : Table) : Type 0 where
   pub four : (calls : List Call) (peer : ℕ)
       → tally (λ (r : Shown). eqb peer (r .peer)) (openSlots (fullSize n) (tableFrom (fullSize n) (made (fullSize n) t) calls .numbers)) ≤ 4
   -- no two open slots share peer and request id, so that in an open list place never decides;
-  pub apart : (calls : List Call) → Apart (openSlots (fullSize n) (tableFrom (fullSize n) (made (fullSize n) t) calls .numbers))
+  pub apart : (calls : List Call) → NoneTwice (openSlots (fullSize n) (tableFrom (fullSize n) (made (fullSize n) t) calls .numbers))
   -- and a list whose chunks arrive is handed out with the last of them.
   pub delivery : (before : List Call) (peer request-id : ℕ) (header body : List ℕ) (limit : ℕ) (first : Call) (rest : List Call) (told : List Answer)
       → Delivery n (modelAfter (fullSize n) before .model) peer request-id header body limit first rest

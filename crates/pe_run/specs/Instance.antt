@@ -1,6 +1,7 @@
 -- A run that meets every hypothesis of a delivery, and the answers that it gets: the second chunk comes first and bare, the first one last and in a
--- message, and in between another peer under the same request id, a chunk that is held already, one beyond the count, a torn one, a poll just in
--- time, a late one that is refused for its short output, a clock that goes back, a cancel of another request id and a drop of another peer.
+-- message, and in between another peer under the same request id, a chunk that is held already, one beyond the count, a torn one, an open list, a
+-- poll just in time, a late one that is refused for its short output, a clock that goes back, a cancel of another request id and a drop of another
+-- peer.
 -- Assumes nothing.
 use Prim.Native.Nat.{ℕ}
 use mathlib.Core.Bool.{true}

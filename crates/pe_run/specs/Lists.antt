@@ -1,4 +1,4 @@
--- Lists with tests.
+-- Lists with tests, and lists in another order.
 -- Assumes nothing.
 use Prim.Native.Nat.{ℕ, suc}
 use mathlib.Core.Bool.{Bool, true, false, cond}

@@ -58,10 +58,10 @@ abbrev pub tableFrom : Shape → Table → List Call → Table
 tableFrom shape t [] = t
 tableFrom shape t (c ∷ calls) = tableFrom shape (step shape t c) calls
 
--- Is it an answer that the call's contract allows?
 abbrev pub feedTold : FeedLeft → Answer
 feedTold r = fed (r .answer) (r .memory .out-header) (r .memory .out-body)
 
+-- Is it the answer that the call's contract gives?
 abbrev pub Answers : Shape → Table → Call → Answer → Type 0
 Answers shape t (feed peer chunk now-ms out-header out-body) a = a ≡ feedTold (feedCall shape (lent t out-header out-body) peer chunk now-ms)
 Answers shape t (feed-message message now-ms out-header out-body) a = a ≡ feedTold (messageCall shape (lent t out-header out-body) message now-ms)
@@ -74,7 +74,7 @@ Answers shape t memory-stats a = a ≡ totals (statsCall shape (t .numbers))
 Answers shape t reserved-bytes a = a ≡ counted (reservedCall shape)
 Answers shape t (open-list out-peers out-ids out-held) a = a ≡ listTold (openCall shape (t .numbers) out-peers out-ids out-held)
 
--- Answers that the contracts allow, from one end of the run to the other.
+-- Answers that the contracts give, from one end of the run to the other.
 abbrev pub Run : Shape → Table → List Call → List Answer → Type 0
 Run shape t [] [] = Unit {0}
 Run shape t [] (a ∷ answers) = ⊥

@@ -59,5 +59,6 @@ unfolding textOf
 replay-told m s = rw (lines-told (started m) (tapeOf s .commands))
 
 -- on a table that `new` has just made, each answer is the model's
-pub tape-right : (m : Memory) → LongFor tapeShape (tableOf m) → (cs : List Command) → AllRight tapeShape start (callsOf (started m) cs) (answersOf (started m) cs)
+pub tape-right : (m : Memory) → LongFor tapeShape (tableOf m) → (cs : List Command)
+    → AllRight tapeShape start (callsOf (started m) cs) (answersOf (started m) cs)
 tape-right m long cs = answers-right tapeShape (tableOf m) long [] (callsOf (started m) cs) (answersOf (started m) cs) (runs (started m) cs)

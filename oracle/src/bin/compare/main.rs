@@ -126,11 +126,11 @@ fn check_left_out(runs: u64, summary: &Summary) -> Result<(), String> {
     Ok(())
 }
 
-/// Did each of tick, peer and request id put a slot ahead of one that lies before it, and on damaged numbers place decide too? Of
-/// fewer runs than reach it all it is only said.
+/// Did each of tick, peer and request id decide between slots of an open list, and on damaged numbers place too? Of fewer runs
+/// than reach it all it is only said.
 fn check_open_lists(runs: u64, summary: &Summary) -> Result<(), String> {
-    match summary.never_put_ahead() {
-        None => println!("Tick, peer and request id each put slots of open lists in order, and place did on damaged numbers."),
+    match summary.never_decided() {
+        None => println!("Tick, peer and request id each decided in open lists, and place on damaged numbers."),
         Some(missing) if runs >= RUNS_FOR_ALL => return Err(format!("NOT ALL ORDERS: {missing}")),
         Some(missing) => println!("Too few runs for every order: {missing}. RUNS={RUNS_FOR_ALL} reaches all."),
     }

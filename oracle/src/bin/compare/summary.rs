@@ -15,7 +15,7 @@ pub enum Stored {
 }
 
 impl Stored {
-    /// What can put a slot of such a table ahead of another. Calls leave no two with one peer and request id.
+    /// What can decide between two slots of such a table. Calls leave no two with one peer and request id.
     fn orders(self) -> &'static [By] {
         match self {
             Stored::ByCalls => &[By::Tick, By::Peer, By::RequestId],
@@ -33,7 +33,7 @@ pub struct Summary {
     left_out: BTreeMap<(&'static str, Beyond), u64>,
     /// How many open lists had two ticks held at 2^64 - 1.
     held_ticks: u64,
-    /// How many had slots that stand ahead of others which lie before them, by what.
+    /// In how many this decided between two slots, against their places or, of place, with all else equal.
     open_lists: BTreeMap<(Stored, By), u64>,
 }
 
@@ -70,7 +70,7 @@ impl Summary {
     pub fn count_open_list(&mut self, stored: Stored, rows: &[OpenSlot]) {
         let held = rows.iter().filter(|row| row.tick == u64::MAX).count();
         self.held_ticks += u64::from(stored == Stored::ByCalls && held > 1);
-        for by in open::put_ahead(rows) {
+        for by in open::deciding(rows) {
             *self.open_lists.entry((stored, by)).or_default() += 1;
         }
     }
@@ -79,7 +79,7 @@ impl Summary {
         self.open_lists.get(&(stored, by)).copied().unwrap_or(0)
     }
 
-    /// In how many open lists a slot stands ahead of one that lies before it, by what.
+    /// In how many open lists each of tick, peer, request id and place decided.
     pub fn open_lists(&self) -> String {
         let told = |stored: Stored| {
             let by: Vec<String> = stored.orders().iter().map(|by| format!("{by}: {}", self.listed(stored, *by))).collect();
@@ -87,17 +87,17 @@ impl Summary {
         };
         let (by_calls, damaged, held) = (told(Stored::ByCalls), told(Stored::Damaged), self.held_ticks);
         format!(
-            "Open lists (K7) in which a slot stands ahead of one that lies before it, by its {by_calls};\n\
-             with two ticks held at 2^64 - 1: {held}. On damaged numbers, beside a reading of them, by its {damaged}"
+            "Open lists (K7) in which this decided between two slots, against their places or, of place, with all else equal:\n\
+             {by_calls}; on damaged numbers, beside a reading of them, {damaged}. With two ticks held at 2^64 - 1: {held}"
         )
     }
 
-    /// By what did no slot stand ahead of one that lies before it, where it can?
-    pub fn never_put_ahead(&self) -> Option<String> {
+    /// What never decided, where it can?
+    pub fn never_decided(&self) -> Option<String> {
         let never = |stored: Stored| stored.orders().iter().find(|by| self.listed(stored, **by) == 0);
-        let by_calls = never(Stored::ByCalls).map(|by| format!("by its {by}"));
-        let by = by_calls.or_else(|| never(Stored::Damaged).map(|by| format!("by its {by} on damaged numbers")))?;
-        Some(format!("no slot of an open list stood ahead of one that lies before it {by}"))
+        let by_calls = never(Stored::ByCalls).map(|by| format!("{by} decided"));
+        let by = by_calls.or_else(|| never(Stored::Damaged).map(|by| format!("{by} decided on damaged numbers")))?;
+        Some(format!("in no open list {by}"))
     }
 
     fn left_out(&self, export: Export) -> String {
