@@ -1,6 +1,7 @@
 //! Why the original's answer may not stand; and a reading of document 02's sentences on chunks beyond their count and property
-//! bytes above 7F (K3). The cutter's reading, with K6's limits, stands in cut.rs. Each function puts document 01's questions in their order, and K3's among them where its sentences say. Where the first no is to one of K3's, the
-//! original gives another answer: such an input is left out of the comparison with the original, and held against this reading.
+//! bytes above 7F (K3). The cutter's reading, with K6's limits, stands in cut.rs. Each function puts document 01's questions in
+//! their order, and K3's among them where its sentences say. Where the first no is to one of K3's, the original gives another
+//! answer: such an input is left out of the comparison with the original, and held against this reading.
 use crate::input::{Chunk, Whole};
 use crate::layout::HEADER_BYTES;
 use crate::outcome::Refusal;
