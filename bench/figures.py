@@ -53,7 +53,7 @@ class Row:
 
     def target(self):
         """The most that port / Rust may be, if anything."""
-        if self.table in ("chunk by chunk", "open lists", "tapes"):
+        if self.table in ("chunk by chunk", "open lists", "turns", "tapes"):
             return None
         if self.table == "split" and self.limit() in (128, 256, 4096):
             return 0.5

@@ -15,6 +15,7 @@ TITLES = {
     "readers": "Readers: one call",
     "growth": "Growth: one feed, by the records that its slot holds before",
     "open lists": "Open lists: one call, by the order of the ticks",
+    "turns": "Turns: one chunk handed out, by the lists that wait",
     "files": "Files: one .syx file, all its messages listed",
     "headers": "Headers: one name looked up",
     "tapes": "Tapes: one tape played by the program `tape`",
@@ -64,7 +65,8 @@ def grid(title, head, found):
 
 def table(title, found):
     copies = any("copies" in row.median for row in found)
-    head = ["", "port", "Rust", "port / Rust", "quickest", "instructions, port", "Rust", "port / Rust"]
+    port, rust = ("turn", "`split_chunk`") if title == TITLES["turns"] else ("port", "Rust")
+    head = ["", port, rust, f"{port} / {rust}", "quickest", f"instructions, {port}", rust, f"{port} / {rust}"]
     last = "share of memcpy's rate" if title == TITLES["files"] else "port / two copies"
     head += [last] if copies else []
     return grid(title, head, [cells(row, copies) for row in found])

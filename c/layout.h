@@ -1,7 +1,9 @@
-/* How a table's memory is laid out: what the tests know of it beyond the header, in one place.
+/* How the memory of a table and of a stage is laid out: what the tests know of it beyond the header, in one place.
  *
  * `numbers` is the clock, and then for each peer a record: bound, MUID, and four slots (open lists). `index` has the same
- * number of records of chunks for each slot: chunk number, length and offset in one word. */
+ * number of records of chunks for each slot: chunk number, length and offset in one word.
+ *
+ * `stage` is the turn (the place that is asked first), and then the words of each place. */
 #ifndef LAYOUT_H
 #define LAYOUT_H
 
@@ -43,5 +45,22 @@ static inline uint64_t record_number(uint64_t record) { return record % 65536; }
 static inline uint64_t record_len(uint64_t record) { return record / 65536 % 65536; }
 
 static inline uint64_t record_offset(uint64_t record) { return record / 65536 / 65536; }
+
+/* The words of a place of a stage: the list, and the number of the chunk that leaves next, 0 where nobody waits. */
+enum {
+    LIST_HEADER_AT,
+    LIST_HEADER_LEN,
+    LIST_BODY_AT,
+    LIST_BODY_LEN,
+    LIST_REQUEST_ID,
+    LIST_MAX_SYSEX,
+    NEXT_CHUNK,
+    PLACE_WORDS
+};
+
+enum { TURN = 0, TURN_WORDS = 1 };
+
+/* Where place p begins in `stage`. */
+static inline size_t place_at(size_t p) { return TURN_WORDS + PLACE_WORDS * p; }
 
 #endif

@@ -66,6 +66,8 @@ bool table_guarded(const struct table *table)
 
 bool told_same(struct told a, struct told b)
 {
-    return a.refusal == b.refusal && a.value == b.value && a.numbers[0] == b.numbers[0] && a.numbers[1] == b.numbers[1] &&
-           a.numbers[2] == b.numbers[2];
+    bool is_same = a.refusal == b.refusal && a.value == b.value;
+    for (int i = 0; i < MOST_TOLD; i++)
+        is_same = is_same && a.numbers[i] == b.numbers[i];
+    return is_same;
 }

@@ -102,9 +102,11 @@ struct given {
 };
 
 /* What a call answers: the numbers behind refusal and value, in their order, and 0 for those that it has not. */
+enum { MOST_TOLD = 5 };
+
 struct told {
     uint8_t refusal, value;
-    uint64_t numbers[3];
+    uint64_t numbers[MOST_TOLD];
 };
 
 enum given_bytes { NO_BYTES, A_CHUNK, A_MESSAGE };

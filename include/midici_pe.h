@@ -1,5 +1,5 @@
-/* MIDI-CI Property Exchange: cut a header and a body into chunks, write messages, join what arrives, find the messages of a
- * .syx file, and find a value in a header.
+/* MIDI-CI Property Exchange: cut a header and a body into chunks, let several lists leave by turns, write messages, join
+ * what arrives, find the messages of a .syx file, and find a value in a header.
  *
  * Words. A peer is a device, named by its MUID, a number of 28 bits. A list is the header and the body of one exchange,
  * bytes up to 7F both. A chunk is one piece of a list. A message is a CI header of 13 bytes with a chunk behind it, without
@@ -12,10 +12,11 @@
  * Slices. A slice is a pointer and a length; the length counts elements, not bytes. A pointer may be NULL where the length
  * is 0. A call writes within the slices that are not const, and nowhere else.
  *
- * Answers. midici_pe_answer, midici_pe_cut, midici_pe_fed, midici_pe_stats, midici_pe_syx and midici_pe_found begin with
- * `refusal`: 0, or the number that says why the call was turned down (enum midici_pe_refusal). With a refusal every other
- * field is 0, except `value` with number 24. Unless a call says otherwise, a refused call leaves all lent memory as it was.
- * midici_pe_request_id has no refusal. Compare fields, not the bytes of the structs: there is padding between fields.
+ * Answers. midici_pe_answer, midici_pe_cut, midici_pe_turn, midici_pe_fed, midici_pe_stats, midici_pe_syx and
+ * midici_pe_found begin with `refusal`: 0, or the number that says why the call was turned down (enum midici_pe_refusal).
+ * With a refusal every other field is 0, except `value` with number 24. Unless a call says otherwise, a refused call leaves
+ * all lent memory as it was. midici_pe_request_id has no refusal. Compare fields, not the bytes of the structs: there is
+ * padding between fields.
  *
  * Time. Every call returns, whatever its arguments. Its time grows with the bytes that it is given, a file's among them,
  * and the chunks that the list holds, with two exceptions. Feeding a list that holds a chunk number twice, or one that is 0
@@ -29,7 +30,7 @@
  *   - a slice with a length above 0 points to that many elements, aligned as C aligns their type;
  *   - a slice that is not const does not overlap another slice of the same call;
  *   - while a call runs, nobody else writes what it is lent, and nobody else reads what it may write: calls on one table
- *     run one after the other, calls on different tables may run at the same time;
+ *     or one stage run one after the other, calls on different ones may run at the same time;
  *   - the program is compiled for x86-64 as ELF systems call functions there, with a size_t of 64 bits.
  * If one is broken, nothing is said any more: the call may write anywhere, answer anything or never return. */
 #ifndef MIDICI_PE_H
@@ -43,7 +44,7 @@
 #include <stdint.h>
 
 #define MIDICI_PE_VERSION_MAJOR 0
-#define MIDICI_PE_VERSION_MINOR 7
+#define MIDICI_PE_VERSION_MINOR 8
 #define MIDICI_PE_VERSION_PATCH 0
 
 /* More stack than any call takes (make sizes measures each). */
@@ -77,7 +78,8 @@ enum midici_pe_refusal {
     MIDICI_PE_CI_INVALID_MUID = 28,        /* a peer, source or destination above 0FFFFFFF */
 
     MIDICI_PE_CHUNK_OUT_OF_RANGE = 29,     /* no chunk of the list has this number */
-    MIDICI_PE_BAD_SHAPE = 30,              /* the shape is out of range, or a lent slice is too short for it */
+    MIDICI_PE_BAD_SHAPE = 30,              /* the shape is out of range, a lent slice is too short for it or for a stage, or
+                                            * a list is not within the lent buffer */
     MIDICI_PE_DAMAGED_SLOT = 31,           /* the table's memory holds what no call on it leaves there (see Receiving) */
 
     MIDICI_PE_SYX_TOO_MANY_MESSAGES = 32,  /* a file has more messages than `places` or `lengths` can hold */
@@ -86,9 +88,12 @@ enum midici_pe_refusal {
     MIDICI_PE_JSON_NOT_FLAT_OBJECT = 34,   /* it is no flat JSON object of the kind that is read (see Headers) */
     MIDICI_PE_JSON_NAME_TWICE = 35,        /* a name stands in it twice */
 
-    /* No call of this header answers these: the program tape prints them. */
+    /* No call of this header answers these two: the program tape prints them. */
     MIDICI_PE_TAPE_UNKNOWN_COMMAND = 36,   /* a tape has a byte that no command begins with */
-    MIDICI_PE_TAPE_CUT_OFF = 37            /* a tape ends inside a command */
+    MIDICI_PE_TAPE_CUT_OFF = 37,           /* a tape ends inside a command */
+
+    MIDICI_PE_STAGE_NO_SUCH_PLACE = 38,    /* a stage has no such place: it is above 15 */
+    MIDICI_PE_STAGE_PLACE_BUSY = 39        /* the list that is at this place of the stage has not left yet */
 };
 
 /* What most calls answer. `value` is the kind of message with refusal 24, else 0. What `count` counts is said at each call;
@@ -105,6 +110,18 @@ typedef struct midici_pe_cut {
     uint64_t chunks;
     uint64_t bytes;
 } midici_pe_cut;
+
+/* What a turn answers. `handed` is 1 when a chunk was written: then `place` is its list's place, `chunk_num` its number,
+ * `num_chunks` how many chunks the list has, and `length` how many bytes the chunk has in the output. Where nobody waits,
+ * `handed` and all the others are 0. */
+typedef struct midici_pe_turn {
+    uint8_t refusal;
+    uint8_t handed;
+    uint16_t chunk_num;
+    uint16_t num_chunks;
+    uint64_t place;
+    uint64_t length;
+} midici_pe_turn;
 
 /* What feeding answers. `whole` is 1 when the list is complete: then `header_len` and `body_len` are its lengths, and the
  * two outputs begin with it. While chunks are missing, `whole` and both lengths are 0. */
@@ -215,6 +232,64 @@ midici_pe_answer midici_pe_encode_message(uint8_t sub_id2, uint32_t source, uint
                                           const uint8_t *header, size_t header_len, uint16_t num_chunks,
                                           uint16_t chunk_num, const uint8_t *property, size_t property_len, uint8_t *out,
                                           size_t out_len);
+
+/* ---- Sending by turns ---- */
+
+/* A stage lets up to 16 lists leave by turns, a chunk of each, so that a long list does not block a short one. Each of its
+ * places, 0 to 15, holds one list that is being cut, or none. */
+#define MIDICI_PE_STAGE_PLACES 16
+
+/* Its memory is one slice of at least so many uint64_t; a longer one is fine, and what is past the length is never touched.
+ * midici_pe_stage_new makes a stage in it. From then on only the calls below may write it; you may move or copy a stage
+ * between calls.
+ *
+ * A stage holds no bytes of a list. It notes where they lie in a buffer of yours, which is lent with every join and turn:
+ * there a list's header and body have to stand unchanged until its last chunk has left. A turn cuts what it finds there,
+ * and cannot see whether that is what joined.
+ *
+ * Where only joins and turns have changed a stage since it was made, a list that waits is served within 16 turns, whatever
+ * joins meanwhile; turns that are refused do not count. Where a list's bytes have stayed besides, its chunks leave complete
+ * and in the order of their numbers, and a turn that comes to it is not refused if the list lies within the buffer and
+ * `out` has room for its chunk.
+ *
+ * In memory that something else has written, stored numbers are taken as they are; no call goes beyond the lent slices for
+ * it. What helps is midici_pe_stage_new. */
+#define MIDICI_PE_STAGE_LEN 113
+
+/* A list that is to leave: its header is the `header_len` bytes of the buffer from byte `header_at` on, counted from 0, its
+ * body the `body_len` bytes from `body_at` on. Request id and limit are as for midici_pe_chunk_count. No number is cut
+ * short: one that is too large is refused, and a limit above 16,384 is taken as that. */
+typedef struct midici_pe_outgoing {
+    uint64_t header_at;
+    uint64_t header_len;
+    uint64_t body_at;
+    uint64_t body_len;
+    uint64_t request_id;
+    uint64_t max_sysex;
+} midici_pe_outgoing;
+
+/* Makes an empty stage, of which the first turn asks place 0 first. Called again on the same memory, it makes a new stage,
+ * and what waited is gone. `count` is 0.
+ * Refusals: 30 `stage` is shorter than MIDICI_PE_STAGE_LEN. It is then as it was. */
+midici_pe_answer midici_pe_stage_new(uint64_t *stage, size_t stage_len);
+
+/* A list joins at a place. `count` is how many chunks will leave.
+ * Refusals, in the order in which they are asked: 30 `stage` is too short; 38 `place` is above 15; 39 the list at this
+ * place has not left yet; 30 the header or the body is not within the buffer, which is also so where its start and its
+ * length have a sum above 2^64 - 1; then those of midici_pe_chunk_count. `stage` is then as it was. */
+midici_pe_answer midici_pe_stage_join(uint64_t *stage, size_t stage_len, const uint8_t *buffer, size_t buffer_len,
+                                      uint64_t place, midici_pe_outgoing list);
+
+/* Writes the next chunk of the next list into `out`. That list is the first that waits, going round from the place behind
+ * the one that was served last. The rest of `out` keeps its bytes. With the chunk whose number is the count the list has
+ * left, and its place is free. Only where nobody waits is `handed` 0 without a refusal; everything is then as it was. With
+ * each turn all bytes of the list are asked, as by midici_pe_split_chunk.
+ * Refusals, in the order in which they are asked: 30 `stage` is too short; 30 the next list is not within the buffer; then
+ * those of midici_pe_split_chunk. `stage` and `out` are then as they were. So a refused turn does not go on to the next
+ * place: the lists behind wait until you mend it, with 3 by a longer `out` (MIDICI_PE_CHUNK_LEN bytes are always enough),
+ * with 30 or 1 by the whole list's bytes back in the buffer, or else by midici_pe_stage_new. */
+midici_pe_turn midici_pe_stage_turn(uint64_t *stage, size_t stage_len, const uint8_t *buffer, size_t buffer_len,
+                                    uint8_t *out, size_t out_len);
 
 /* ---- Receiving ---- */
 

@@ -92,6 +92,21 @@ impl List {
         format!("{} bytes at {}", self.body.len(), self.max_sysex)
     }
 
+    /// Puts its header and its body behind what the buffer holds: how it joins a stage.
+    pub fn put_in(&self, buffer: &mut Vec<u8>) -> exports::Outgoing {
+        let (header_at, body_at) = (buffer.len(), buffer.len() + self.header.len());
+        buffer.extend(&self.header);
+        buffer.extend(&self.body);
+        exports::Outgoing {
+            header_at: header_at as u64,
+            header_len: self.header.len() as u64,
+            body_at: body_at as u64,
+            body_len: self.body.len() as u64,
+            request_id: REQUEST_ID.into(),
+            max_sysex: self.max_sysex.into(),
+        }
+    }
+
     /// Cut by the Rust, or at a limit above 4,096, where it does not cut, by the oracle's plain cutter.
     pub fn chunks(&self) -> Vec<Vec<u8>> {
         let List { header, body, max_sysex } = self;

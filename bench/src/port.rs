@@ -1,6 +1,7 @@
 //! The port's side.
 use crate::inputs::{List, PEERS, REQUEST_ID};
 use oracle::layout::{numbers_len, slots, FRAGMENT_RECORDS, HEADER_BYTES, TX_BYTES};
+use oracle::stage::{next_chunk_at, WORDS};
 
 const SHAPE: exports::Shape =
     exports::Shape { max_peers: PEERS, header_bytes: HEADER_BYTES, tx_bytes: TX_BYTES, fragment_records: FRAGMENT_RECORDS };
@@ -53,6 +54,31 @@ impl Table {
     /// Lists the open slots in the three columns: how many there are.
     pub fn open_list(&self, [peers, request_ids, chunks_held]: &mut [Vec<u64>; 3]) -> usize {
         exports::midici_pe_open_list(SHAPE, &self.numbers, peers, request_ids, chunks_held).count as usize
+    }
+}
+
+/// An outgoing stage.
+pub struct Stage(Vec<u64>);
+
+impl Stage {
+    pub fn new() -> Stage {
+        let mut words = vec![1; WORDS];
+        assert_eq!(exports::midici_pe_stage_new(&mut words).refusal, 0, "the port's stage");
+        Stage(words)
+    }
+
+    /// A list of the buffer joins: how many chunks will leave.
+    pub fn join(&mut self, buffer: &[u8], place: usize, list: exports::Outgoing) -> usize {
+        exports::midici_pe_stage_join(&mut self.0, buffer, place as u64, list).count as usize
+    }
+
+    pub fn turn(&mut self, buffer: &[u8], out: &mut [u8]) -> exports::TurnAnswer {
+        exports::midici_pe_stage_turn(&mut self.0, buffer, out)
+    }
+
+    /// From the first places this chunk is to leave next.
+    pub fn put_back(&mut self, places: usize, chunk_num: u16) {
+        (0..places).for_each(|place| self.0[next_chunk_at(place)] = chunk_num.into());
     }
 }
 

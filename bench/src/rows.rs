@@ -7,6 +7,7 @@ mod open_lists;
 mod readers;
 mod split;
 mod tapes;
+mod turns;
 
 use crate::row::Row;
 
@@ -17,6 +18,7 @@ pub fn each(mut visit: impl FnMut(Row)) {
     readers::each(&mut visit);
     growth::each(&mut visit);
     open_lists::each(&mut visit);
+    turns::each(&mut visit);
     files::each(&mut visit);
     headers::each(&mut visit);
 }

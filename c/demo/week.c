@@ -2,11 +2,11 @@
  *
  * A mixer sends its scene list to a hub, in chunks, by two cables. Both ends are played here: the mixer's side cuts the
  * list, at once, and sends each chunk behind a CI header; the hub's side feeds what arrives, turns down what does not
- * belong there, stray chunks among it, and puts the list together. At the weekend the same list comes once more, as a .syx
- * file, whose messages the hub finds and feeds. Of the lists that are open, the hub's staff see the oldest on top, and of
- * each that is whole the resource, which its header names. Each step is printed, with the bytes that travel. What arrived
- * is compared with what was sent, both times: the exit status is 0 if it is the same, 1 if it is not or if a call answered
- * something else than the step expects. */
+ * belong there, stray chunks among it, and puts the list together. Then the hub sends it on, by turns with a short list. At
+ * the weekend the same list comes once more, as a .syx file, whose messages the hub finds and feeds. Of the lists that are
+ * open, the hub's staff see the oldest on top, and of each that is whole the resource, which its header names. Each step is
+ * printed, with the bytes that travel. What arrived is compared with what was sent, each time: the exit status is 0 if it
+ * is the same, 1 if it is not or if a call answered something else than the step expects. */
 #include "midici_pe.h"
 
 #include <inttypes.h>
@@ -31,6 +31,9 @@ enum {
     CUT_BYTES = LIST_HEADER_LEN + LIST_BODY_LEN + 9 * CHUNKS, /* all chunks together */
     STRAY = 7,                                                /* the number of a chunk that the list has not */
     FILE_BYTES = 2048,                                        /* room for the file */
+    SENT_BYTES = 2048,                                        /* room for the lists that the hub sends on */
+    SCENES_PLACE = 3,                                         /* their places on the stage */
+    STATE_PLACE = 9,
 
     GET = 0x34,       /* the kind of a message that asks for a list */
     GET_REPLY = 0x35, /* the kind of a message that brings one */
@@ -73,6 +76,13 @@ struct message {
 struct file {
     size_t len;
     uint8_t bytes[FILE_BYTES];
+};
+
+/* Lists that leave by turns: the stage, and the buffer that holds them one behind the other. */
+struct outgoing {
+    uint64_t stage[MIDICI_PE_STAGE_LEN];
+    size_t len;
+    uint8_t bytes[SENT_BYTES];
 };
 
 /* What a call wrote when a list was whole. */
@@ -172,6 +182,8 @@ static const char *name_of_refusal(uint8_t refusal)
         return "MIDICI_PE_INCONSISTENT_CHUNKING: it does not go with itself or with the chunks before it";
     case MIDICI_PE_SYX_TOO_MANY_MESSAGES:
         return "MIDICI_PE_SYX_TOO_MANY_MESSAGES: the file has more messages than that";
+    case MIDICI_PE_STAGE_PLACE_BUSY:
+        return "MIDICI_PE_STAGE_PLACE_BUSY: the list that is there has not left yet";
     default:
         return "midici_pe.h has its name";
     }
@@ -561,18 +573,112 @@ static bool same_bytes(const char *what, const uint8_t *sent, size_t sent_len, c
     return true;
 }
 
+static const char *kind_of(const struct list *list) { return list->sender == MIXER ? "scene" : "short"; }
+
 static bool same_list(const struct list *list, const struct received *received)
 {
     bool header = same_bytes("header", list->header, list->header_len, received->header, received->header_len);
     bool body = same_bytes("body", list->body, list->body_len, received->body, received->body_len);
-    puts(header && body ? "The scene list has arrived as it was sent." : "The scene list is NOT what was sent.");
+    printf("The %s list %s.\n", kind_of(list), header && body ? "has arrived as it was sent" : "is NOT what was sent");
     return header && body;
+}
+
+/* ---- The list goes on, by turns with a short one ---- */
+
+/* Puts a list behind those that the buffer holds, and lets it join; the answer is its count, or a refusal. */
+static midici_pe_answer join_stage(struct outgoing *outgoing, uint64_t place, const struct list *list)
+{
+    midici_pe_outgoing parts = {.header_at = outgoing->len,
+                                .header_len = list->header_len,
+                                .body_at = outgoing->len + list->header_len,
+                                .body_len = list->body_len,
+                                .request_id = list->request_id,
+                                .max_sysex = MAX_SYSEX};
+    must(outgoing->len + list->header_len + list->body_len <= SENT_BYTES, "the buffer has room");
+    memcpy(outgoing->bytes + parts.header_at, list->header, list->header_len);
+    memcpy(outgoing->bytes + parts.body_at, list->body, list->body_len);
+    midici_pe_answer joined =
+        midici_pe_stage_join(outgoing->stage, MIDICI_PE_STAGE_LEN, outgoing->bytes, SENT_BYTES, place, parts);
+    printf("  The %s list is to join at place %" PRIu64 ", with %zu bytes of header and %zu of body.\n", kind_of(list),
+           place, list->header_len, list->body_len);
+    if (joined.refusal != MIDICI_PE_OK) {
+        print_refused(joined.refusal);
+    } else {
+        printf("      It will leave in %" PRIu64 " chunks.\n", joined.count);
+        outgoing->len += list->header_len + list->body_len;
+    }
+    return joined;
+}
+
+/* The message with the chunk whose turn it is: a CI header, and behind it the chunk, which the turn writes there. */
+static midici_pe_turn take_turn(struct outgoing *outgoing, struct message *message)
+{
+    uint8_t *ci_header = message->bytes + 1;
+    midici_pe_answer written =
+        midici_pe_encode_message(GET_REPLY, HUB, LIGHTS, 0, NULL, 0, 1, 1, NULL, 0, ci_header, MAX_SYSEX - 2);
+    must(written.refusal == MIDICI_PE_OK, "the CI header can be written");
+    midici_pe_turn turn =
+        midici_pe_stage_turn(outgoing->stage, MIDICI_PE_STAGE_LEN, outgoing->bytes, SENT_BYTES,
+                             ci_header + MIDICI_PE_CI_HEADER_LEN, MAX_SYSEX - 2 - MIDICI_PE_CI_HEADER_LEN);
+    must(turn.refusal == MIDICI_PE_OK, "a turn is granted");
+    close_message(message, MIDICI_PE_CI_HEADER_LEN + turn.length);
+    return turn;
+}
+
+/* A chunk of a list arrives at the far end; with the last one the list is whole. */
+static void arrive_by_turn(midici_pe_turn turn, const struct message *message, const struct list *list,
+                           struct received *received)
+{
+    midici_pe_fed fed = arrive('A', HUB, message, 4 * (uint64_t)DAY_MS, received);
+    if (turn.chunk_num == turn.num_chunks)
+        expect_whole(fed, list, received);
+    else
+        expect_waiting(fed);
+}
+
+/* All turns, until nobody waits. The two lists, and what arrives of them, stand here in the order of their places. */
+static void take_turns(struct outgoing *outgoing, const struct list *const lists[2], struct received *const received[2])
+{
+    const uint64_t places[] = {SCENES_PLACE, STATE_PLACE,  SCENES_PLACE, STATE_PLACE,
+                               SCENES_PLACE, SCENES_PLACE, SCENES_PLACE};
+    const size_t most = sizeof places / sizeof places[0];
+    struct message message;
+    size_t turns = 0;
+    for (midici_pe_turn turn = take_turn(outgoing, &message); turn.handed; turn = take_turn(outgoing, &message)) {
+        int which = turn.place == SCENES_PLACE ? 0 : 1;
+        turns++;
+        printf("  Turn %zu: place %" PRIu64 ", chunk %d of %d, in a message of %zu bytes.\n", turns, turn.place,
+               turn.chunk_num, turn.num_chunks, message.len);
+        must(turns <= most && turn.place == places[turns - 1], "the lists take turns");
+        arrive_by_turn(turn, &message, lists[which], received[which]);
+    }
+    printf("  Nobody waits any more.\n");
+    must(turns == most, "all chunks have left");
+}
+
+/* What the hub has received it sends on, and with it a short list of its own. The far end is played here, by a new table in
+ * the same memory. */
+static bool send_on(const struct list *scenes, struct received *scenes_received, struct received *state_received)
+{
+    static struct outgoing outgoing;
+    struct list state = other_list(HUB, (uint8_t)(scenes->request_id + 1));
+    printf("  Now the hub sends it on to the lights, and by the same cable a short list, which need not wait for it.\n");
+    must(midici_pe_stage_new(outgoing.stage, MIDICI_PE_STAGE_LEN).refusal == MIDICI_PE_OK, "the stage is made");
+    make_table();
+    must(join_stage(&outgoing, SCENES_PLACE, scenes).count == CHUNKS, "the scene list joins");
+    must(join_stage(&outgoing, SCENES_PLACE, &state).refusal == MIDICI_PE_STAGE_PLACE_BUSY, "the place is busy");
+    must(join_stage(&outgoing, STATE_PLACE, &state).count == state.chunks, "the short list joins");
+    take_turns(&outgoing, (const struct list *const[]){scenes, &state},
+               (struct received *const[]){scenes_received, state_received});
+    bool scene_list = same_list(scenes, scenes_received), short_list = same_list(&state, state_received);
+    return scene_list && short_list;
 }
 
 static bool friday(const struct list *list, const struct received *received)
 {
-    printf("\nFriday: what arrived is held against what was sent, byte for byte\n");
-    return same_list(list, received);
+    static struct received scenes, state;
+    printf("\nFriday: what arrived is held against what was sent, byte for byte, and goes on\n");
+    return same_list(list, received) && send_on(list, &scenes, &state);
 }
 
 /* ---- The weekend: the list in a file ---- */
@@ -657,12 +763,13 @@ static void print_words(void)
     puts("many lists together again, by several cables, in any order, from several devices at once. That it");
     puts("does so as the requirement says, stays within the memory that it was lent and always answers is");
     puts("proved for every input; this program calls it for one week, in which a mixer sends a scene list,");
-    puts("and the same list comes as a file.\n");
+    puts("the hub sends it on, and the same list comes as a file.\n");
     puts("A peer is a device that sends to the hub. A list is a header, which names the list's resource, and");
     puts("a body. It travels in chunks, each in a message of its own, and a table in the hub's memory puts the");
-    puts("chunks together again. A request number says which list of a peer a chunk belongs to. A .syx file");
-    puts("holds messages, one after another, each from F0 to F7. Bytes are hexadecimal, other numbers decimal;");
-    puts("in text a line's end is a slash. Times are counted from the day's first chunk.");
+    puts("chunks together again. A request number says which list of a peer a chunk belongs to. On a stage of");
+    puts("16 places lists that go out take turns, a chunk of each. A .syx file holds messages, one after");
+    puts("another, each from F0 to F7. Bytes are hexadecimal, other numbers decimal; in text a line's end is a");
+    puts("slash. Times are counted from the day's first chunk.");
 }
 
 int main(void)

@@ -131,6 +131,7 @@ static void make_rooms(struct lending *lending, size_t len)
     lent_make(&lending->out, MOST_OUT);
     lent_make(&lending->places, SMALL);
     lent_make(&lending->lengths, SMALL);
+    stage_make(&lending->stage, SMALL / 8, SMALL, SMALL);
 }
 
 /* The first call makes the rooms: small ones, and large ones for what is longer, since they are looked through after every
@@ -489,4 +490,79 @@ void choose_header(struct input *input, struct lending *lending)
         put_any(input, header->at, len);
     cut_to(header, len);
     choose_name(input, header, &lending->body);
+}
+
+/* ---- A stage ---- */
+
+/* The length of the output: mostly enough for each chunk of the lists below. */
+static void choose_out(struct input *input, struct stage *stage)
+{
+    unsigned choice = take(input);
+    lent_resize_or_null(&stage->lent[OUT], choice < 192 ? 1200 : choice - 192);
+    lent_fill(&stage->lent[OUT]);
+}
+
+void choose_stage(struct input *input, struct stage *stage)
+{
+    struct lent *words = &stage->lent[STAGE], *buffer = &stage->lent[BUFFER];
+    choose_out(input, stage);
+    lent_resize_or_null(words, take_len(input, 8 * MIDICI_PE_STAGE_LEN, 8));
+    lent_fill(words);
+    lent_resize_or_null(buffer, 16 * take(input));
+    for (size_t i = 0; i < buffer->len; i++)
+        buffer->at[i] = (uint8_t)(i * 7 % 128);
+    if (take(input) % 4 != 0) {
+        stage_new(stage);
+        return;
+    }
+    uint64_t seed = take_bits(input, 4) + 1; /* numbers that are often a free place, or a list that can be cut */
+    for (size_t i = 0; i < words->len / 8; i++)
+        lent_words(words)[i] = scatter(&seed) % 32 == 0 ? scatter(&seed) : scatter(&seed) % (1 + scatter(&seed) % 200);
+}
+
+/* Where a part of so many bytes begins: mostly so that it is within the buffer, else near its end, or anywhere. */
+static uint64_t take_start(struct input *input, size_t room, uint64_t len)
+{
+    unsigned choice = take(input);
+    if (choice >= 244 || len > room)
+        return take_number(input);
+    uint64_t last = room - len;
+    return choice < 32 ? last + choice % 3 : choice * 13 % (last + 1);
+}
+
+/* A number that is mostly below `below`, which is at most 244. */
+static uint64_t take_mostly(struct input *input, unsigned below)
+{
+    unsigned choice = take(input);
+    return choice >= 244 ? take_number(input) : choice % below;
+}
+
+struct joining choose_joining(struct input *input, struct stage *stage)
+{
+    size_t room = stage->lent[BUFFER].len;
+    unsigned odd = take(input);
+    struct joining joining = {.place = take_mostly(input, MIDICI_PE_STAGE_PLACES + 1)};
+    midici_pe_outgoing *list = &joining.list;
+    list->header_len = take_mostly(input, odd < 16 ? 120 : 12);
+    list->header_at = take_start(input, room, list->header_len);
+    list->body_len = odd < 128 ? take_mostly(input, 244) : take_bits(input, 2) % 1024;
+    list->body_at = take_start(input, room, list->body_len);
+    list->request_id = take_mostly(input, 130);
+    list->max_sysex = odd < 240 ? take_limit(input) : take_number(input);
+    choose_out(input, stage);
+    return joining;
+}
+
+/* Some words keep their low bits, and get a higher one. */
+void damage_stage(struct input *input, struct stage *stage)
+{
+    struct lent *words = &stage->lent[STAGE], *buffer = &stage->lent[BUFFER];
+    unsigned choice = take(input);
+    size_t place = (size_t)take_bits(input, 2);
+    if (choice < 64 && buffer->len > 0)
+        buffer->at[place % buffer->len] ^= 0x80;
+    else if (choice < 160 && words->len > 0)
+        lent_words(words)[place % (words->len / 8)] += UINT64_C(1) << 8 * (choice % 8);
+    else if (words->len > 0)
+        lent_words(words)[place % (words->len / 8)] = take_number(input);
 }

@@ -3,7 +3,8 @@
  * The bytes decide the shape (also one out of range), the length of each lent slice (also too short), what the memory holds
  * (a table that midici_pe_new made, or anything), and which calls are made with which arguments. After each call: the
  * answer is the model's, every slice holds what the model says, nothing before a slice has changed (what is behind it
- * cannot be touched at all), a refusal has left the memory alone, and a whole list fits its outputs. */
+ * cannot be touched at all), a refusal has left the memory alone, and a whole list fits its outputs. So it is with a stage,
+ * on which a run of calls is made. */
 #include "fuzz.h"
 
 #include <stdio.h>
@@ -180,6 +181,35 @@ static void call_header_find(struct input *input, struct lending *lending)
          "header_find");
 }
 
+/* One call on a stage. */
+static void hold_stage(struct stage *stage, const struct stage_call *call, const struct joining *joining)
+{
+    stage_keep(stage);
+    struct told told = call->made(stage, joining);
+    must(stage_guarded(stage), "nothing before a slice of a stage is written");
+    must(told.refusal == 0 || stage_same(stage), "a refusal leaves a stage and its output");
+    must(told_same(told, call->model(stage, joining)), call->name);
+    must(stage_same(stage), call->name);
+}
+
+/* A run of calls, mostly turns and joins. */
+static void run_stage(struct input *input, struct stage *stage)
+{
+    choose_stage(input, stage);
+    for (unsigned calls = take(input); calls > 0 && input->left > 0; calls--) {
+        unsigned choice = take(input);
+        int call = choice < 24 ? (int)choice % STAGE_CALLS : choice < 96 ? STAGE_JOIN : STAGE_TURN;
+        if (choice >= 248) {
+            damage_stage(input, stage);
+            continue;
+        }
+        struct joining joining = {.place = 0};
+        if (call == STAGE_JOIN)
+            joining = choose_joining(input, stage);
+        hold_stage(stage, &stage_calls[call], &joining);
+    }
+}
+
 static void call_alloc(struct input *input)
 {
     uint8_t counter = (uint8_t)take(input);
@@ -230,6 +260,8 @@ static void call_any(struct input *input, struct lending *lending)
         call_header_find(input, lending);
         break;
     case 6:
+        run_stage(input, &lending->stage);
+        break;
     case 7:
         call_table(input, lending, call);
         break;

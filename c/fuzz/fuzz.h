@@ -2,12 +2,13 @@
 #ifndef FUZZ_H
 #define FUZZ_H
 
-#include "table.h"
+#include "stage.h"
 
-/* What is lent: a table's slices, and those of the other calls. */
+/* What is lent: a table's slices, a stage's, and those of the other calls. */
 struct lending {
     struct table table;
     bool is_sound; /* the table was made by midici_pe_new, and nobody but calls has written it since */
+    struct stage stage;
     struct lent header, body, out, places, lengths;
 };
 
@@ -59,5 +60,14 @@ void choose_file(struct input *input, struct lending *lending);
 
 /* A header that is mostly a flat JSON object, and a name, in the place of a body, that it mostly may have. */
 void choose_header(struct input *input, struct lending *lending);
+
+/* A stage, or anything in its place, and a buffer. */
+void choose_stage(struct input *input, struct stage *stage);
+
+/* A list that mostly lies within the buffer and can mostly be cut, a place, and an output. */
+struct joining choose_joining(struct input *input, struct stage *stage);
+
+/* Something else writes a word of the stage or a byte of the buffer. */
+void damage_stage(struct input *input, struct stage *stage);
 
 #endif

@@ -111,3 +111,27 @@ void check_refused(const struct table *table, midici_pe_fed answer, uint8_t refu
     check(table_same(table), "everything stays", of);
     check(table_guarded(table), "nothing is written before a slice", of);
 }
+
+struct told check_stage_call(struct stage *stage, int call, const struct joining *joining, const char *of)
+{
+    stage_keep(stage);
+    struct told told = stage_calls[call].made(stage, joining);
+    check(told.refusal == 0 || stage_same(stage), "a refusal leaves everything", of);
+    check(stage_guarded(stage), "nothing is written before a slice", of);
+    check(told_same(stage_calls[call].model(stage, joining), told), "the model answers the same", of);
+    check(stage_same(stage), "the model leaves the same", of);
+    return told;
+}
+
+void check_stage_chunk(const struct stage *stage, midici_pe_outgoing list, uint64_t chunk_num, uint64_t len, const char *of)
+{
+    static uint8_t alone[MIDICI_PE_CHUNK_LEN];
+    const uint8_t *buffer = stage->lent[BUFFER].at;
+    uint32_t limit = list.max_sysex > UINT32_MAX ? UINT32_MAX : (uint32_t)list.max_sysex;
+    midici_pe_answer cut = midici_pe_split_chunk((uint8_t)list.request_id, buffer + list.header_at, (size_t)list.header_len,
+                                                 buffer + list.body_at, (size_t)list.body_len, limit, (uint16_t)chunk_num,
+                                                 alone, sizeof alone);
+    bool is_long = cut.refusal == 0 && cut.count == len && len <= stage->lent[OUT].len;
+    check(is_long, "the chunk's length", of);
+    check(is_long && memcmp(stage->lent[OUT].at, alone, (size_t)len) == 0, "the chunk's bytes", of);
+}

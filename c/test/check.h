@@ -2,7 +2,7 @@
 #ifndef CHECK_H
 #define CHECK_H
 
-#include "table.h"
+#include "stage.h"
 
 /* One check. `what` says what should hold, `of` in which case. */
 void check(bool holds, const char *what, const char *of);
@@ -49,9 +49,18 @@ void open_one(struct table *table, uint32_t peer, uint8_t request_id, uint64_t n
 /* Checks a refusal that leaves the table as it was kept. */
 void check_refused(const struct table *table, midici_pe_fed answer, uint8_t refusal, uint8_t value, const char *of);
 
+/* Makes a call on a stage, and checks that its answer and what it leaves are the model's; its answer. */
+struct told check_stage_call(struct stage *stage, int call, const struct joining *joining, const char *of);
+
+/* Checks that the output of a turn begins with this chunk of a list, as it is cut alone, `len` bytes long. */
+void check_stage_chunk(const struct stage *stage, midici_pe_outgoing list, uint64_t chunk_num, uint64_t len,
+                       const char *of);
+
 /* The tests, by subject. Those with a seed make random calls. */
 void test_sending(void);
 void test_splitting(uint64_t seed);
+void test_stage(void);
+void test_stage_runs(uint64_t seed);
 void test_feeding(void);
 void test_table_calls(void);
 void test_open_list(void);

@@ -10,6 +10,8 @@ int main(int argc, char **argv)
     uint64_t seed = given == 0 ? 1 : given * 0x9E3779B97F4A7C15u;
     test_sending();
     test_splitting(seed);
+    test_stage();
+    test_stage_runs(seed);
     test_feeding();
     test_table_calls();
     test_open_list();

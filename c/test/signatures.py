@@ -1,8 +1,8 @@
 #!/usr/bin/env python3
 """signatures.py: prints a C file that is an error wherever include/midici_pe.h and the Rattle source disagree.
 
-It reads the exports, their structs and the numbers of kinds from crates/hub and hub_message, the struct of a shape, the
-refusals' numbers and the sizes from the crates below them.
+It reads the exports, their structs and the numbers of kinds from crates/hub and hub_message, the structs of a shape and
+of a list that is to leave, the refusals' numbers and the sizes from the crates below them.
 For each export it prints a pointer of the type that the source says, set to the function that the header declares; for
 each struct, refusal, kind and size an assertion. What a compiler does not see is compared here: the names of parameters,
 and that neither side has a function, a refusal or a kind that the other lacks."""
@@ -15,7 +15,7 @@ HEADER = ROOT / 'include' / 'midici_pe.h'
 TYPES = {'u8': ('uint8_t', 1), 'u16': ('uint16_t', 2), 'u32': ('uint32_t', 4), 'u64': ('uint64_t', 8), 'usize': ('size_t', 8)}
 STRUCTS = {'Answer': 'midici_pe_answer', 'CutAnswer': 'midici_pe_cut', 'FedAnswer': 'midici_pe_fed', 'StatsAnswer': 'midici_pe_stats',
            'SyxAnswer': 'midici_pe_syx', 'FoundAnswer': 'midici_pe_found', 'RequestId': 'midici_pe_request_id',
-           'Shape': 'midici_pe_shape'}
+           'Shape': 'midici_pe_shape', 'Outgoing': 'midici_pe_outgoing', 'TurnAnswer': 'midici_pe_turn'}
 
 
 def wrong(what):
@@ -107,6 +107,9 @@ def print_sizes():
     check(f"MIDICI_PE_NUMBERS_LEN({peers}) == 1 + {peers} * {number('PEER_WORDS')}")
     check('(size_t)PEER_WORDS == MIDICI_PE_NUMBERS_LEN(1) - MIDICI_PE_NUMBERS_LEN(0)')
     check(f"SLOT_WORDS == {number('SLOT_WORDS')}")
+    check(f"MIDICI_PE_STAGE_PLACES == {number('PLACES')}")
+    check(f"MIDICI_PE_STAGE_LEN == {number('STAGE_WORDS')}")
+    check(f"PLACE_WORDS == {number('PLACE_WORDS')}")
     check(f"MIDICI_PE_MESSAGE_LEN + 2 == {number('MAX_SYSEX_MAX')}")
     check('MIDICI_PE_CHUNK_LEN + MIDICI_PE_CI_HEADER_LEN == MIDICI_PE_MESSAGE_LEN')
 
@@ -126,12 +129,13 @@ for function, (result, parameters) in functions.items():
 for function in re.findall(r'\b(\w+)\([^()]*\);', header):
     if function not in functions:
         wrong(f'{HEADER.name} declares {function}, which neither crates/hub nor hub_message exports')
-print_structs(hub + source('pe_reassembler/src/shape.rt'))
+print_structs(hub + source('pe_reassembler/src/shape.rt') + source('pe_stage/src/place.rt'))
 refusals = print_numbers('pe_wire/src/error.rt', 'PeError', 'MIDICI_PE_')
 refusals += print_numbers('midici_core/src/error.rt', 'CiError', 'MIDICI_PE_CI_')
 refusals += print_numbers('syx/src/lib.rt', 'SyxError', 'MIDICI_PE_SYX_')
 refusals += print_numbers('pe_header/src/lib.rt', 'JsonError', 'MIDICI_PE_JSON_')
 refusals += print_numbers('pe_tape/src/error.rt', 'TapeError', 'MIDICI_PE_TAPE_')
+refusals += print_numbers('pe_stage/src/error.rt', 'StageError', 'MIDICI_PE_STAGE_')
 if enumerators('midici_pe_refusal') != refusals:
     wrong(f'{HEADER.name} has other refusals than the source')
 if enumerators('midici_pe_kind') != print_numbers('hub/src/header.rt', 'Kind', 'MIDICI_PE_'):

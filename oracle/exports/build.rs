@@ -5,7 +5,8 @@ use std::path::{Path, PathBuf};
 use std::{env, fs};
 
 /// The folders and files below crates/ that have the exports, and the structs that these take and answer.
-const SOURCES: [&str; 4] = ["hub/src", "hub_message/src", "codec_exports/src", "pe_reassembler/src/shape.rt"];
+const SOURCES: [&str; 5] =
+    ["hub/src", "hub_message/src", "codec_exports/src", "pe_reassembler/src/shape.rt", "pe_stage/src/place.rt"];
 /// Their archives below target/lib: hub_message's exports are in the first.
 const ARCHIVES: [&str; 2] = ["midici_pe", "codec_exports"];
 

@@ -77,16 +77,19 @@ impl<'a> Cut<'a> {
         bytes.extend(property);
         bytes
     }
+
+    /// "Is k from 1 to the count? 29. Buffer long enough? 3." The bytes of chunk k.
+    pub fn written(&self, k: usize, room: usize) -> Asked<Vec<u8>> {
+        ask((1..=self.chunks).contains(&k), 29)?;
+        let bytes = self.chunk(k);
+        ask(room >= bytes.len(), 3)?;
+        Ok(bytes)
+    }
 }
 
-/// "Is k from 1 to the count? 29. Buffer long enough? 3." How many bytes chunk k takes.
+/// How many bytes chunk k takes.
 pub fn cut_chunk(list: List, k: usize, room: usize) -> Asked<usize> {
-    let cut = cut(list)?;
-    ask((1..=cut.chunks).contains(&k), 29)?;
-    let (header, property) = cut.parts(k);
-    let need = 9 + header.len() + property.len();
-    ask(room >= need, 3)?;
-    Ok(need)
+    Ok(cut(list)?.written(k, room)?.len())
 }
 
 /// All chunks at once, one behind the other, and their lengths: how many chunks, and how many bytes. Where the room for the bytes

@@ -1,5 +1,5 @@
-//! The original's side of the comparison: the functions that are compared, their inputs as bytes, runs of calls on a table, tapes,
-//! and the original's answers.
+//! The original's side of the comparison: the functions that are compared, their inputs as bytes, runs of calls on a table and on an
+//! outgoing stage, tapes, and the original's answers, or a reading's.
 pub mod beyond;
 pub mod call;
 pub mod case;
@@ -18,4 +18,5 @@ pub mod outcome;
 pub mod random;
 pub mod rng;
 pub mod run;
+pub mod stage;
 pub mod tape;

@@ -5,12 +5,18 @@ pub mod tape;
 use crate::beyond::{Beyond, No};
 use crate::case::Case;
 use crate::cut;
-use crate::input::u32_at;
+use crate::functions::cutter;
+use crate::input::{u32_at, List};
 use crate::outcome::{Outcome, Refusal, Reply};
 
 /// The original's answer to a case, with the output that is lent; of K6's limits the answer of a reading.
 pub fn answer(case: &Case, out: Vec<u8>) -> Outcome {
     (case.op.row().original)(&case.input, out)
+}
+
+/// The chunks of a list: the original's, or of K6's limits those of a reading.
+pub fn split(list: List) -> Result<Vec<Vec<u8>>, Refusal> {
+    cutter::split(list)
 }
 
 /// What K3 turns down of a case, where it does: it is left out of the comparison with the original.

@@ -61,6 +61,9 @@ pub enum Answer {
     Whole,
     No,
     Yes,
+    Handed,
+    Last,
+    Nobody,
     Refused(u8),
 }
 
@@ -92,6 +95,9 @@ impl fmt::Display for Answer {
             Answer::Whole => write!(f, "whole"),
             Answer::No => write!(f, "no"),
             Answer::Yes => write!(f, "yes"),
+            Answer::Handed => write!(f, "handed"),
+            Answer::Last => write!(f, "last"),
+            Answer::Nobody => write!(f, "nobody"),
             Answer::Refused(number) => write!(f, "{number}"),
         }
     }

@@ -1,8 +1,9 @@
-//! Random cases around the boundaries, from a seed, random runs and random tapes.
+//! Random cases around the boundaries, from a seed, random runs on tables and on outgoing stages, and random tapes.
 mod damage;
 mod lists;
 pub mod runs;
 mod senders;
+pub mod stages;
 pub mod tapes;
 
 pub use crate::rng::Rng;

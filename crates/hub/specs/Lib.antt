@@ -3,3 +3,4 @@ pub mod Table
 pub mod Files
 pub mod Header
 pub mod Chunks
+pub mod Stage

@@ -4,4 +4,5 @@ pub mod chunks;
 pub mod controller;
 pub mod files;
 pub mod header;
+pub mod stage;
 pub mod table;

@@ -2,21 +2,22 @@
 -- Assumes nothing.
 use Prim.Native.Nat.{ℕ, suc, _+_, _-_, _<_, _≤_}
 use mathlib.Core.Bool.{Bool, true, false, cond, _&&_, _||_, or-true}
-use mathlib.Core.List.{List, []}
+use mathlib.Core.List.{List, [], _++_}
 use mathlib.Core.Path.{_≡_, refl, sym, ap, _∙_}
 use native.Mathlib.Omega.{arith}
 use borrow.Author.Tests.{le-leb, lt-leb, leb-true, eqb-true, eqb-false}
 use lib.Dec.{leb, eqb}
-use lib.ListN.{length, getD, take}
+use lib.ListN.{length, getD, take, drop}
 use lib.Seq.{take-length}
-use Rattle.seven_bit.specs.Reply.{granted, refused}
+use Rattle.seven_bit.specs.Reply.{Reply, granted, refused, Outcome, outcome, writing}
 use Rattle.seven_bit.specs.SevenBit.{isSevenBit}
 use Rattle.seven_bit.proofs.PartLaws.{part-none}
 use Rattle.seven_bit.proofs.ReplyLaws.{asked, and-told}
 use Rattle.pe_frame.specs.Chunk.{chunkFrom, withinCount}
 use Rattle.pe_frame.specs.Write.{chunkLen, writeChunk}
 use Rattle.pe_frame.proofs.ChunkLaws.{InRange, ask-yes}
-use Rattle.pe_chunker.specs.Cut.{budget, laterCapacity, bodyPieces, chunkAt, cutCount, cutChunk}
+use Rattle.pe_chunker.specs.Cut.{budget, laterCapacity, bodyPieces, chunkAt, cutCount, cutChunk, Sized, CountedLeft, counted, countedTold, counting}
+use Rattle.pe_chunker.specs.declared.Counted.{Counted}
 use Rattle.pe_chunker.proofs.CutLaws.{later-is, later-between}
 use Rattle.pe_chunker.proofs.PieceLaws.{first-short, later-short, first-full, later-full, piece-bytes}
 use Rattle.pe_chunker.proofs.AskLaws.{Cut, cut-asked, cut-told, cut-refused}
@@ -150,3 +151,21 @@ chunk-told id header body limit k room bs q =
     let n = length (bodyPieces limit (length header) body) in
     let b = and-told (leb 1 k) (leb k n) (asked (leb 1 k && leb k n) 29 _ bs (t .1) .0) in
     (t .0, leb-true 1 k (b .0), leb-true k n (b .1))
+
+-- what is left where a chunk stands at the front, with the count
+pub counted-wrote : (count : ℕ) (bytes out after : List ℕ) (n len : ℕ) → count ≡ n → length bytes ≡ len → after ≡ bytes ++ drop (length bytes) out
+    → counted (granted (record { num-chunks = n; len = len })) after ≡ counting count (granted bytes) out
+counted-wrote count bytes out after n len c e f = rw (c, ← e, f)
+
+-- and without it
+abbrev pub lengthTold : Reply Sized → Reply ℕ
+lengthTold (granted s) = granted (s .len)
+lengthTold (refused number value) = refused number value
+
+abbrev uncounted : CountedLeft → Outcome
+uncounted l = outcome (lengthTold (l .answer)) (l .out)
+
+pub writing-counted : (count : ℕ) (r : Reply (List ℕ)) (out after : List ℕ) (x y : Counted) → x ≡ y → counted (countedTold x) after ≡ counting count r out
+    → outcome (lengthTold (countedTold y)) after ≡ writing r out
+writing-counted count (granted bytes) out after x y e q = sym (ap (λ (z : Counted). outcome (lengthTold (countedTold z)) after) e) ∙ ap uncounted q
+writing-counted count (refused number value) out after x y e q = sym (ap (λ (z : Counted). outcome (lengthTold (countedTold z)) after) e) ∙ ap uncounted q

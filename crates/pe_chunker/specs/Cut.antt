@@ -6,7 +6,7 @@ use mathlib.Core.List.{List, [], _∷_, _++_}
 use mathlib.Core.Path.{_≡_}
 use lib.Dec.{leb, ltb, eqb}
 use lib.ListN.{length, getD, take, drop}
-use Rattle.seven_bit.specs.Reply.{Reply, granted, _else_then_, andThen}
+use Rattle.seven_bit.specs.Reply.{Reply, granted, refused, _else_then_, andThen}
 use Rattle.seven_bit.specs.SevenBit.{isSevenBit}
 use Rattle.midici_core.specs.Header.{Header, headerBytes}
 use Rattle.pe_wire.specs.Errors.{peRefused}
@@ -14,6 +14,7 @@ use Rattle.pe_frame.specs.Chunk.{Chunk}
 use Rattle.pe_frame.specs.Write.{chunkBytes, chunkLen}
 use Rattle.pe_chunker.specs.declared.Capacity.{Capacity}
 use Rattle.pe_chunker.specs.declared.ChunkCount.{ChunkCount}
+use Rattle.pe_chunker.specs.declared.Counted.{Counted}
 
 -- Document 02, K6: "The upper clamp rises to 16,384".
 abbrev pub maxSysexMax : ℕ
@@ -110,3 +111,24 @@ capacityTold (Capacity.Refused e) = peRefused e
 abbrev pub chunkCountTold : ChunkCount → Reply ℕ
 chunkCountTold (ChunkCount.Chunks n) = granted n
 chunkCountTold (ChunkCount.Refused e) = peRefused e
+
+-- The answer with the count: how many chunks there are, and how many bytes this one has. And the lent output.
+pub record Sized : Type 0 where
+  pub num-chunks : ℕ
+  pub len : ℕ
+
+pub record CountedLeft : Type 0 where
+  pub answer : Reply Sized
+  pub out : List ℕ
+
+abbrev pub counted : Reply Sized → List ℕ → CountedLeft
+counted answer out = record { answer = answer; out = out }
+
+abbrev pub countedTold : Counted → Reply Sized
+countedTold (Counted.Wrote n len) = granted (record { num-chunks = n; len = len })
+countedTold (Counted.Refused e) = peRefused e
+
+-- `writing`, with the count on a grant.
+abbrev pub counting : ℕ → Reply (List ℕ) → List ℕ → CountedLeft
+counting count (granted bytes) out = counted (granted (record { num-chunks = count; len = length bytes })) (bytes ++ drop (length bytes) out)
+counting count (refused number value) out = counted (refused number value) out

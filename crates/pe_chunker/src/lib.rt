@@ -17,7 +17,7 @@ ghost use lib.ListN.{length};
 ghost use Rattle.seven_bit.specs.Reply.{outcome, writing};
 ghost use Rattle.pe_wire.specs.Wire.{encodedTold};
 ghost use Rattle.pe_chunker.specs.Cut.{clamped, budget, laterCapacity, askFirst, cutCount, cutChunk};
-ghost use Rattle.pe_chunker.specs.Cut.{capacityTold, chunkCountTold};
+ghost use Rattle.pe_chunker.specs.Cut.{bodyPieces, capacityTold, chunkCountTold, countedTold, counted, counting};
 
 pub const MAX_SYSEX_MIN: u32 = 128;
 
@@ -32,6 +32,12 @@ pub enum Capacity {
 // How many chunks a list is cut into, or why it is not.
 pub enum ChunkCount {
     Chunks(u16),
+    Refused(PeError),
+}
+
+// How many chunks the list of a chunk is cut into, and how many bytes of the chunk were written; or why it is not written.
+pub enum Counted {
+    Wrote(u16, usize),
     Refused(PeError),
 }
 
@@ -110,28 +116,29 @@ pub fn chunk_count(request_id: u8, header: &[u8], body: &[u8], max_sysex: u32) -
     ChunkCount::Chunks(chunks as u16)
 }
 
-// Chunk number chunk_num of them, written into out. Every byte of the body is asked with each call; `split` asks once.
-pub fn split_chunk(
+// Chunk number chunk_num of them, written into out, with their count. Every byte of the body is asked with each call; `split` asks once.
+pub fn split_counted(
     request_id: u8,
     header: &[u8],
     body: &[u8],
     max_sysex: u32,
     chunk_num: u16,
     out: &mut [u8],
-) -> Encoded
-    ensures { λ r. ⌜ outcome (encodedTold r) (now (out .exit))
-        ≡ writing (cutChunk «request_id» (now (header .entry)) (now (body .entry)) «max_sysex» «chunk_num» (length (now (out .entry))))
+) -> Counted
+    ensures { λ r. ⌜ counted (countedTold r) (now (out .exit))
+        ≡ counting (length (bodyPieces «max_sysex» (length (now (header .entry))) (now (body .entry))))
+        (cutChunk «request_id» (now (header .entry)) (now (body .entry)) «max_sysex» «chunk_num» (length (now (out .entry))))
         (now (out .entry)) ⌝ }
 {
     let num_chunks = match chunk_count(request_id, header, body, max_sysex) {
         ChunkCount::Chunks(n) => n,
-        ChunkCount::Refused(e) => return Encoded::Refused(e),
+        ChunkCount::Refused(e) => return Counted::Refused(e),
     };
     if chunk_num < 1 {
-        return Encoded::Refused(PeError::ChunkOutOfRange);
+        return Counted::Refused(PeError::ChunkOutOfRange);
     }
     if chunk_num > num_chunks {
-        return Encoded::Refused(PeError::ChunkOutOfRange);
+        return Counted::Refused(PeError::ChunkOutOfRange);
     }
     // Where there is no room, nothing is stored.
     let len = put_piece(
@@ -145,7 +152,26 @@ pub fn split_chunk(
         0,
     );
     if out.len() < len {
-        return Encoded::Refused(PeError::BufferTooSmall);
+        return Counted::Refused(PeError::BufferTooSmall);
     }
-    Encoded::Wrote(len)
+    Counted::Wrote(num_chunks, len)
+}
+
+// The same without the count.
+pub fn split_chunk(
+    request_id: u8,
+    header: &[u8],
+    body: &[u8],
+    max_sysex: u32,
+    chunk_num: u16,
+    out: &mut [u8],
+) -> Encoded
+    ensures { λ r. ⌜ outcome (encodedTold r) (now (out .exit))
+        ≡ writing (cutChunk «request_id» (now (header .entry)) (now (body .entry)) «max_sysex» «chunk_num» (length (now (out .entry))))
+        (now (out .entry)) ⌝ }
+{
+    match split_counted(request_id, header, body, max_sysex, chunk_num, out) {
+        Counted::Wrote(_, len) => Encoded::Wrote(len),
+        Counted::Refused(e) => Encoded::Refused(e),
+    }
 }

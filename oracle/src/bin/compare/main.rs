@@ -1,13 +1,15 @@
 //! Compares the port with the original: `compare SEED CASES RUNS PROGRAM`. All inputs of a function where they are few; else all
-//! that are short or at the boundaries, and then CASES random ones; then RUNS runs of calls on a table; then a tape for every
-//! tenth run through PROGRAM, which is `tape`. What the original lacks is compared with a reading of document 02; so are lists
-//! cut at K6's limits, and what K3 turns down and the original does not, but in a run what it turns down by what a slot holds. It
-//! stops at the first difference. It fails too where an export is not compared, or never gave a refusal that it can give, where
-//! nothing was left out for one of K3's questions or for K6's limits, where tick, peer, request id or place never decided the order
-//! of an open list (K7), or where a kind of line never came. `compare tapes SEED TAPES PROGRAM` compares tapes alone, `compare
-//! exports` prints the names of the exports that are compared.
+//! that are short or at the boundaries, and then CASES random ones; then RUNS runs of calls on a table; then for every tenth run
+//! one on an outgoing stage, and a tape through PROGRAM, which is `tape`. What the original lacks is compared with a reading of
+//! document 02; so are lists cut at K6's limits, and what K3 turns down and the original does not, but in a run what it turns down by
+//! what a slot holds. It stops at the first difference. It fails too where an export is not compared, or never gave a refusal that it
+//! can give, where nothing was left out for one of K3's questions or for K6's limits, where tick, peer, request id or place never
+//! decided the order of an open list (K7), where something never came up on a stage (K8), or where a kind of line never came.
+//! `compare tapes SEED TAPES PROGRAM` compares tapes alone, `compare stages SEED RUNS` stages alone, `compare exports` prints the
+//! names of the exports that are compared.
 mod port;
 mod runs;
+mod stages;
 mod state;
 mod summary;
 mod table;
@@ -17,19 +19,24 @@ use oracle::call::What;
 use oracle::case::Case;
 use oracle::export::{Export, NONE_OF_HUB};
 use oracle::op::Op;
+use oracle::random::stages::CALLS;
 use oracle::random::Rng;
-use oracle::{original, random};
+use oracle::{original, random, stage};
 use std::collections::BTreeSet;
 use std::process::ExitCode;
 use summary::Summary;
 
+const USAGE: [&str; 4] =
+    ["compare SEED CASES RUNS PROGRAM", "compare tapes SEED TAPES PROGRAM", "compare stages SEED RUNS", "compare exports"];
+
 /// So many runs give every refusal that an export can give; the inputs at the boundaries give all of a function's.
 const RUNS_FOR_ALL: u64 = 2_000;
-/// A tape for so many runs.
+/// A run on a stage for so many runs on a table, and a tape for so many.
+const RUNS_FOR_A_STAGE: u64 = 10;
 const RUNS_FOR_A_TAPE: u64 = 10;
 
 fn compared() -> Vec<Export> {
-    Op::ALL.iter().map(|(_, export)| *export).chain(What::exports()).collect()
+    Op::ALL.iter().map(|(_, export)| *export).chain(What::exports()).chain(stage::EXPORTS).collect()
 }
 
 /// Is every export compared that the source declares, and is every one declared that is compared?
@@ -102,6 +109,15 @@ fn compare_runs(seed: u64, runs: u64, summary: &mut Summary) -> Result<(), Strin
     Ok(())
 }
 
+fn compare_stages(seed: u64, runs: u64, summary: &mut Summary) -> Result<(), String> {
+    println!("{runs} runs of {CALLS} calls on an outgoing stage (K8), beside a reading of document 02. What leaves is held against the");
+    println!("lists that joined, as the original cuts them, or above 4,096 the reading.");
+    stages::compare(seed, runs, summary)?;
+    stage::EXPORTS.iter().for_each(|export| println!("{}", summary.line(*export)));
+    println!("{}", summary.stages.told());
+    Ok(())
+}
+
 /// Did the exports give every refusal that they can give, and no other? Of fewer runs than reach them all it is only said.
 fn check_refusals(runs: u64, summary: &Summary) -> Result<(), String> {
     summary.check(&compared()).map_err(|unknown| format!("REFUSALS THAT ARE NOT LISTED: {unknown}"))?;
@@ -137,6 +153,16 @@ fn check_open_lists(runs: u64, summary: &Summary) -> Result<(), String> {
     Ok(())
 }
 
+/// Did everything come up on a stage that is to? Of fewer runs than reach it all it is only said.
+fn check_stages(runs: u64, summary: &Summary) -> Result<(), String> {
+    match summary.never_on_stages() {
+        None => println!("All of this came up on stages, and turns that hand out a chunk, a last one, or say that nobody waits."),
+        Some(missing) if runs >= RUNS_FOR_ALL => return Err(format!("NOT ALL OF STAGES: {missing}")),
+        Some(missing) => println!("Too few runs for all of stages: {missing}. RUNS={RUNS_FOR_ALL} reaches all."),
+    }
+    Ok(())
+}
+
 /// Tapes through the program. Of fewer than reach every kind of line it is only said which one is missing.
 fn compare_tapes(seed: u64, tapes: u64, program: &str) -> Result<(), String> {
     println!("{tapes} tapes through {program} (K4), each in pieces, and how often each kind of line came");
@@ -164,10 +190,12 @@ fn compare_all_parts(seed: u64, cases: u64, runs: u64, program: &str) -> Result<
     let mut summary = Summary::default();
     compare_functions(seed, cases, &mut summary).map_err(differs)?;
     compare_runs(seed, runs, &mut summary).map_err(differs)?;
+    compare_stages(seed, runs.div_ceil(RUNS_FOR_A_STAGE), &mut summary).map_err(differs)?;
     println!("{}, no difference", summary.totals(&compared()));
     check_refusals(runs, &summary)?;
     check_left_out(runs, &summary)?;
     check_open_lists(runs, &summary)?;
+    check_stages(runs, &summary)?;
     compare_tapes(seed, runs.div_ceil(RUNS_FOR_A_TAPE), program)
 }
 
@@ -179,10 +207,13 @@ fn run(args: &[&str]) -> Result<(), String> {
             Ok(())
         }
         ["tapes", seed, tapes, program] => compare_tapes(number(seed, "SEED")?, number(tapes, "TAPES")?, program),
+        ["stages", seed, runs] => {
+            compare_stages(number(seed, "SEED")?, number(runs, "RUNS")?, &mut Summary::default()).map_err(differs)
+        }
         [seed, cases, runs, program] => {
             compare_all_parts(number(seed, "SEED")?, number(cases, "CASES")?, number(runs, "RUNS")?, program)
         }
-        _ => Err("usage: compare SEED CASES RUNS PROGRAM, compare tapes SEED TAPES PROGRAM, or compare exports".into()),
+        _ => Err(format!("usage: {}", USAGE.join(", or "))),
     }
 }
 

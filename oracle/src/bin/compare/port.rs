@@ -12,7 +12,7 @@ pub fn fill(at: usize) -> u8 {
 }
 
 /// What the port answers, or how its answer is none that document 01 knows.
-type Found<T> = Result<T, String>;
+pub type Found<T> = Result<T, String>;
 
 /// The port's answer to a case, with the output that is lent.
 pub fn answer(case: &Case, mut lent: Vec<u8>) -> Found<Outcome> {
@@ -60,7 +60,7 @@ pub fn answer(case: &Case, mut lent: Vec<u8>) -> Found<Outcome> {
 
 /// The refusal, or else what is granted. A refusal with anything granted beside it, or a grant with a refusal's value, is no
 /// answer.
-fn reply<A: Refusing>(answer: A, granted: impl Fn(&A) -> Vec<u64>) -> Found<Reply> {
+pub fn reply<A: Refusing>(answer: A, granted: impl Fn(&A) -> Vec<u64>) -> Found<Reply> {
     let (number, value) = (answer.refusal(), answer.value());
     match number {
         0 if value == 0 => Ok(Ok(granted(&answer))),
@@ -74,7 +74,7 @@ fn granted<T: Into<u64>>(values: impl IntoIterator<Item = T>) -> Found<Reply> {
     Ok(Ok(values.into_iter().map(Into::into).collect()))
 }
 
-fn count(answer: exports::Answer) -> Found<Reply> {
+pub fn count(answer: exports::Answer) -> Found<Reply> {
     reply(answer, |exports::Answer { refusal: _, value: _, count }| vec![*count])
 }
 

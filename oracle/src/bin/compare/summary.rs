@@ -1,8 +1,10 @@
 //! What was compared: how often each export gave each answer, what was left out, and how many bytes.
+use crate::stages;
 use oracle::beyond::Beyond;
 use oracle::export::{Export, NONE_OF_HUB, NUMBERS};
 use oracle::open::{self, By, OpenSlot};
 use oracle::outcome::Answer;
+use oracle::stage;
 use std::collections::{BTreeMap, BTreeSet};
 
 type Answers = BTreeMap<Answer, u64>;
@@ -35,6 +37,7 @@ pub struct Summary {
     held_ticks: u64,
     /// In how many this decided between two slots, against their places or, of place, with all else equal.
     open_lists: BTreeMap<(Stored, By), u64>,
+    pub stages: stages::Seen,
 }
 
 fn calls(answers: &Answers) -> u64 {
@@ -98,6 +101,14 @@ impl Summary {
         let by_calls = never(Stored::ByCalls).map(|by| format!("{by} decided"));
         let by = by_calls.or_else(|| never(Stored::Damaged).map(|by| format!("{by} decided on damaged numbers")))?;
         Some(format!("in no open list {by}"))
+    }
+
+    /// What never came up on a stage, where it can?
+    pub fn never_on_stages(&self) -> Option<String> {
+        let given = self.of(stage::TURN);
+        let never = [Answer::Handed, Answer::Last, Answer::Nobody].into_iter().find(|answer| !given.contains_key(answer));
+        let answer = never.map(|answer| format!("no turn gave {answer}"));
+        answer.or_else(|| self.stages.missing().map(|name| format!("no {name}")))
     }
 
     fn left_out(&self, export: Export) -> String {

@@ -175,7 +175,8 @@ fn length(start: Start, call: &Call, part: Part) -> usize {
     }
 }
 
-fn output<T: Copy + PartialEq + fmt::Debug>(name: &str, out: &mut [T], written: &[T], before: &[T]) -> Result<u64, String> {
+/// Does an output begin with what was to be written, and hold what it held behind it? Then it is made as before.
+pub fn output<T: Copy + PartialEq + fmt::Debug>(name: &str, out: &mut [T], written: &[T], before: &[T]) -> Result<u64, String> {
     let n = written.len();
     if let Some(at) = (0..n).find(|at| out[*at] != written[*at]) {
         return Err(format!("{name} has {:?} at {at}, and is to have {:?}", out[at], written[at]));

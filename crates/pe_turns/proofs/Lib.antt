@@ -1,0 +1,9 @@
+pub mod Plain
+pub mod Waiting
+pub mod Steps
+pub mod Sending
+pub mod Order
+pub mod Theorem
+pub mod Lent
+pub mod Forward
+pub mod Instance
