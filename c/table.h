@@ -101,9 +101,10 @@ struct given {
     const struct lent *bytes;
 };
 
-/* What a call answers: the numbers behind refusal and value, in their order, and 0 for those that it has not. */
+/* The most numbers that a call answers behind refusal and value. */
 enum { MOST_TOLD = 5 };
 
+/* What a call answers: these numbers in their order, and 0 for those that it has not. */
 struct told {
     uint8_t refusal, value;
     uint64_t numbers[MOST_TOLD];

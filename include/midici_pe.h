@@ -287,7 +287,8 @@ midici_pe_answer midici_pe_stage_join(uint64_t *stage, size_t stage_len, const u
  * Refusals, in the order in which they are asked: 30 `stage` is too short; 30 the next list is not within the buffer; then
  * those of midici_pe_split_chunk. `stage` and `out` are then as they were. So a refused turn does not go on to the next
  * place: the lists behind wait until you mend it, with 3 by a longer `out` (MIDICI_PE_CHUNK_LEN bytes are always enough),
- * with 30 or 1 by the whole list's bytes back in the buffer, or else by midici_pe_stage_new. */
+ * with 30, where `stage` is long enough, or 1 by the whole list's bytes back in the buffer, or else by
+ * midici_pe_stage_new. */
 midici_pe_turn midici_pe_stage_turn(uint64_t *stage, size_t stage_len, const uint8_t *buffer, size_t buffer_len,
                                     uint8_t *out, size_t out_len);
 

@@ -9,7 +9,7 @@ enum {
     PLACES = MIDICI_PE_STAGE_PLACES,
     EXTRA = PLACE_WORDS + 2,     /* words past the stage: one more place would lie there */
     BAD = 5000,                  /* the one byte of the buffer that is above 7F */
-    LONGEST = 16383 * 104,       /* the longest body at 128, and one byte more is behind the bad one */
+    LONGEST = 16383 * 104,       /* the longest body that is cut at 128; behind the bad byte there is one byte more */
     END = BAD + 1 + LONGEST + 1, /* the buffer's length */
     BUSY = 3,                    /* the place where a list waits */
     BEHIND = 9                   /* another one */

@@ -35,7 +35,7 @@ pub enum ChunkCount {
     Refused(PeError),
 }
 
-// How many chunks the list of a chunk is cut into, and how many bytes of the chunk were written; or why it is not written.
+// How many chunks there are, and how many bytes of this one were written, or why it was not.
 pub enum Counted {
     Wrote(u16, usize),
     Refused(PeError),

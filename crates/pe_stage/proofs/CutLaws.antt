@@ -142,7 +142,7 @@ chunk-number id header body limit k room =
     (λ f. let h : 65535 < k = leb-false k 65535 f in chunk-above id header body limit (min k 65535) k room (omega arith) (omega arith))
     (both (leb k 65535))
 
--- ---- what the cutter is handed
+-- ---- what the cutter is lent
 abbrev headerLent : List ℕ → Outgoing → List ℕ
 headerLent buffer list = lent (list .«header_at») (list .«header_len») buffer
 
@@ -156,22 +156,22 @@ body-lent : (buffer : List ℕ) (list : Outgoing) → bodyLent buffer list ≡ b
 body-lent buffer list = lent-part (list .«body_at») (list .«body_len») buffer
 
 -- the count
-pub count-handed : (buffer : List ℕ) (list : Outgoing) (id limit : ℕ) → isInside buffer list ≡ true
+pub count-lent : (buffer : List ℕ) (list : Outgoing) (id limit : ℕ) → isInside buffer list ≡ true
     → id ≡ min (list .«request_id») 255 → limit ≡ min (list .«max_sysex») 16384
     → cutCount id (headerLent buffer list) (bodyLent buffer list) limit ≡ countIn buffer list
 unfolding countIn
-count-handed buffer list id limit i e f =
+count-lent buffer list id limit i e f =
     let h = headerIn buffer list in
     let b = bodyIn buffer list in
     rw (i, e, f, header-lent buffer list, body-lent buffer list, count-id (list .«request_id») h b (min (list .«max_sysex») 16384))
     (count-limit (list .«request_id») h b (list .«max_sysex»))
 
 -- chunk k, and the count beside it
-chunk-handed : (buffer : List ℕ) (list : Outgoing) (k room id limit number : ℕ) → isInside buffer list ≡ true
+chunk-lent : (buffer : List ℕ) (list : Outgoing) (k room id limit number : ℕ) → isInside buffer list ≡ true
     → id ≡ min (list .«request_id») 255 → limit ≡ min (list .«max_sysex») 16384 → number ≡ min k 65535
     → cutChunk id (headerLent buffer list) (bodyLent buffer list) limit number room ≡ chunkIn buffer list k room
 unfolding chunkIn
-chunk-handed buffer list k room id limit number i e f n =
+chunk-lent buffer list k room id limit number i e f n =
     let h = headerIn buffer list in
     let b = bodyIn buffer list in
     rw (
@@ -186,19 +186,19 @@ chunk-handed buffer list k room id limit number i e f n =
     )
     (chunk-number (list .«request_id») h b (list .«max_sysex») k room)
 
-chunks-handed : (buffer : List ℕ) (list : Outgoing) (limit : ℕ) → limit ≡ min (list .«max_sysex») 16384
+chunks-lent : (buffer : List ℕ) (list : Outgoing) (limit : ℕ) → limit ≡ min (list .«max_sysex») 16384
     → length (bodyPieces limit (length (headerLent buffer list)) (bodyLent buffer list)) ≡ chunksIn buffer list
-chunks-handed buffer list limit f =
+chunks-lent buffer list limit f =
     rw (f, header-lent buffer list, body-lent buffer list, pieces-most (list .«max_sysex») (length (headerIn buffer list)) (bodyIn buffer list))
 
 -- and what both leave
-pub counting-handed : (buffer : List ℕ) (list : Outgoing) (k room id limit number : ℕ) (out : List ℕ) → isInside buffer list ≡ true
+pub counting-lent : (buffer : List ℕ) (list : Outgoing) (k room id limit number : ℕ) (out : List ℕ) → isInside buffer list ≡ true
     → id ≡ min (list .«request_id») 255 → limit ≡ min (list .«max_sysex») 16384 → number ≡ min k 65535
     → counting (length (bodyPieces limit (length (headerLent buffer list)) (bodyLent buffer list)))
     (cutChunk id (headerLent buffer list) (bodyLent buffer list) limit number room) out
     ≡ counting (chunksIn buffer list) (chunkIn buffer list k room) out
-counting-handed buffer list k room id limit number out i e f n =
-    rw (chunk-handed buffer list k room id limit number i e f n, chunks-handed buffer list limit f)
+counting-lent buffer list k room id limit number out i e f n =
+    rw (chunk-lent buffer list k room id limit number i e f n, chunks-lent buffer list limit f)
 
 -- what a grant tells of the chunk's number
 pub number-told : (buffer : List ℕ) (list : Outgoing) (k room : ℕ) (bytes : List ℕ) → chunkIn buffer list k room ≡ granted bytes → k ≤ 16383

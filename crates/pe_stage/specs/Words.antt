@@ -1,4 +1,4 @@
--- How the stage lies in lent numbers, and its calls over them: "one for whose turn is next and seven for each of 16 places".
+-- How the stage lies in lent numbers, one for whose turn is next and seven for each of 16 places, and its calls over them.
 -- Assumes nothing.
 use Prim.Native.Nat.{ℕ, zero, suc, _+_, _*_, _%_, _≤_}
 use mathlib.Core.List.{List, [], _∷_, _++_}
@@ -11,7 +11,7 @@ use Rattle.pe_stage.specs.declared.Joined.{Joined}
 use Rattle.pe_stage.specs.declared.Made.{Made}
 use Rattle.pe_stage.specs.declared.Turned.{Turned}
 use Rattle.pe_stage.specs.declared.place.Outgoing.{Outgoing}
-use Rattle.pe_stage.specs.declared.place.Waiting.{Waiting}
+use Rattle.pe_stage.specs.declared.place.NextPlace.{NextPlace}
 use Rattle.pe_stage.specs.Errors.{stageRefused}
 use Rattle.pe_stage.specs.Stage.{Place, holding, Stage, stage, empty, askJoin, afterJoin, Handout, nobody, hands, askTurn, afterTurn}
 
@@ -80,7 +80,7 @@ abbrev pub making : Reply ℕ → List ℕ → Kept
 making (granted n) words = kept (granted n) (storing empty words)
 making (refused number value) words = kept (refused number value) words
 
--- "Every call: stage memory long enough, 30, first."
+-- Every call asks first whether the stage's memory is long enough: 30.
 unfoldable pub newCall : List ℕ → Kept
 newCall words = making (leb stageWords (length words) else 30 then granted 0) words
 
@@ -126,9 +126,9 @@ turnedTold (Turned.Hands h) = granted (some h)
 turnedTold Turned.Nobody = granted none
 turnedTold (Turned.Refused e) = stageRefused e
 
-abbrev pub waitingTold : Waiting → Option ℕ
-waitingTold (Waiting.At p) = some p
-waitingTold Waiting.Nobody = none
+abbrev pub nextTold : NextPlace → Option ℕ
+nextTold (NextPlace.At p) = some p
+nextTold NextPlace.Nobody = none
 
 -- ---- what the private functions leave of lent numbers that are long enough
 -- A list at place p, with the number of its next chunk.

@@ -7,11 +7,11 @@ pub mod place;
 use crate::cut::chunk_in;
 use crate::cut::count_in;
 use crate::error::StageError;
+use crate::place::NextPlace;
 use crate::place::Outgoing;
 use crate::place::PLACES;
 use crate::place::STAGE_WORDS;
 use crate::place::TURN;
-use crate::place::Waiting;
 use crate::place::list_at;
 use crate::place::next_chunk;
 use crate::place::next_waiting;
@@ -24,7 +24,7 @@ ghost use mathlib.Core.List.{_++_};
 ghost use mathlib.Core.Path.{_≡_};
 ghost use Prim.Native.Nat.{_+_, _<_};
 ghost use lib.Dec.{ltb};
-ghost use lib.ListN.{length, drop, replicate};
+ghost use lib.ListN.{drop, replicate};
 ghost use Rattle.pe_stage.specs.Words.{HasPlaces, stageWords, movedOn, kept, newCall, joinCall, turnLeft, turnCall};
 ghost use Rattle.pe_stage.specs.Words.{madeTold, joinedTold, turnedTold};
 
@@ -128,8 +128,8 @@ pub fn turn(stage: &mut [u64], buffer: &[u8], out: &mut [u8]) -> Turned
         return Turned::Refused(StageError::Pe(PeError::BadShape));
     }
     let p = match next_waiting(stage) {
-        Waiting::At(p) => p,
-        Waiting::Nobody => return Turned::Nobody,
+        NextPlace::At(p) => p,
+        NextPlace::Nobody => return Turned::Nobody,
     };
     let list = list_at(stage, p);
     let chunk_num = next_chunk(stage, p);

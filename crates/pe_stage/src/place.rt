@@ -1,8 +1,8 @@
 // How a stage lies in lent memory: whose turn is next, and the words of each place.
 ghost use mathlib.Core.Path.{_≡_};
-ghost use Prim.Native.Nat.{_+_, _*_, _<_};
-ghost use Rattle.pe_stage.specs.Stage.{placeAt, nextWaiting, isFree};
-ghost use Rattle.pe_stage.specs.Words.{placeWordsAt, stageIn, HasPlaces, placed, waitingTold};
+ghost use Prim.Native.Nat.{_<_};
+ghost use Rattle.pe_stage.specs.Stage.{placeAt, nextWaiting};
+ghost use Rattle.pe_stage.specs.Words.{placeWordsAt, stageIn, HasPlaces, placed, nextTold};
 
 // Whose turn is next, and where the places start.
 pub(crate) const TURN: usize = 0;
@@ -15,7 +15,7 @@ const PLACE_WORDS: usize = 7;
 
 pub(crate) const STAGE_WORDS: usize = PLACES_AT + PLACE_WORDS * PLACES;
 
-// The places of a place's words.
+// Where each word stands, from where the words of a place start.
 const HEADER_AT: usize = 0;
 
 const HEADER_LEN: usize = 1;
@@ -44,7 +44,7 @@ pub struct Outgoing {
 }
 
 // The place that is next, or none.
-pub(crate) enum Waiting {
+pub(crate) enum NextPlace {
     At(usize),
     Nobody,
 }
@@ -98,18 +98,18 @@ pub(crate) fn put_place(stage: &mut [u64], p: usize, list: Outgoing, next_chunk:
 }
 
 // The first place, going round from the one whose turn is next, from which something is to leave.
-pub(crate) fn next_waiting(stage: &[u64]) -> Waiting
+pub(crate) fn next_waiting(stage: &[u64]) -> NextPlace
     requires { ⌜ HasPlaces (now stage) ⌝ }
-    ensures { λ r. ⌜ waitingTold r ≡ nextWaiting (stageIn (now (stage .entry))) ⌝ }
+    ensures { λ r. ⌜ nextTold r ≡ nextWaiting (stageIn (now (stage .entry))) ⌝ }
 {
     let mut p = (stage[TURN] % PLACES as u64) as usize;
     let mut asked = 0;
     while asked < PLACES {
         if next_chunk(stage, p) != 0 {
-            return Waiting::At(p);
+            return NextPlace::At(p);
         }
         p = (p + 1) % PLACES;
         asked += 1;
     }
-    Waiting::Nobody
+    NextPlace::Nobody
 }

@@ -44,7 +44,7 @@ served-from (c ∷ calls) s p d g w a =
     go ih (other q f e n pl l) =
         subst (Among p d) (sym (e (answers (after s c) calls)))
         (among-other p q d f (turnsIn (answers (after s c) calls)) _ _ n l a (ih pl))
-    go ih (ours f buffer room i e q h) =
+    go ih (ours f buffer room i o e q h) =
         subst (Among p d) (sym (e (answers (after s c) calls)))
         (λ l. ap (λ (t : Bool). cond t true (isServed p (take d (turnsIn (answers (after s c) calls))))) (eq-eqb p p refl))
 
@@ -101,8 +101,8 @@ module _ (n : Outgoing) (header body : List ℕ) (count : ℕ) (p : ℕ) where
   later : (c : Call) (calls : List Call) (s : Stage) (more total add : ℕ) → total ≡ add + more
       → ((some : List Call) → length (left p s (c ∷ some)) ≡ add + length (left p (after s c) some))
       → Unchanged p n header body total s (c ∷ calls) → Unchanged p n header body more (after s c) calls
-  later c calls s more total add t e u = λ some buffer out rest h l.
-      u (c ∷ some) buffer out rest (ap (λ (x : List Call). c ∷ x) h) (let z = e some in omega arith)
+  later c calls s more total add t e u = λ some buffer out rest h l w q.
+      u (c ∷ some) buffer out rest (ap (λ (x : List Call). c ∷ x) h) (let z = e some in omega arith) w q
 
   pub sofar : (cut : length (bodyPieces (n .«max_sysex») (length header) body) ≡ count) (calls : List Call) (s : Stage) (k m : ℕ)
       → length (s .places) ≡ 16 → placeAt s p ≡ holding n (suc k)
@@ -142,14 +142,14 @@ module _ (n : Outgoing) (header body : List ℕ) (count : ℕ) (p : ℕ) where
 
           out : (told : List Answer) → sentFrom p (turnsIn (answer s c ∷ told)) ≡ sentFrom p (turnsIn told)
           out told = ap (sentFrom p) (e told) ∙ ap (λ (b : Bool). cond b (f ∷ sentFrom p (turnsIn told)) (sentFrom p (turnsIn told))) nq
-      go m t u ih (ours f buffer room i e q h) = by m t u
+      go m t u ih (ours f buffer room i o e q h) = by m t u
         where
           out : (told : List Answer) → sentFrom p (turnsIn (answer s c ∷ told)) ≡ f ∷ sentFrom p (turnsIn told)
           out told = ap (sentFrom p) (e told) ∙ ap (λ (b : Bool). cond b (f ∷ sentFrom p (turnsIn told)) (sentFrom p (turnsIn told))) (eq-eqb p p refl)
 
           is : (m : ℕ) → Unchanged p n header body (suc m) s (c ∷ calls) → f ≡ chunkOf n header body count (suc k)
           is m u =
-              let v = u [] buffer room calls (ap (λ (x : Call). x ∷ calls) i) (omega arith) in
+              let v = u [] buffer room calls (ap (λ (x : Call). x ∷ calls) i) (omega arith) f o in
               chunk-sent buffer (length room) n (suc k) count header body f
               (subst (λ (x : Place). _≡_ (askChunk buffer (length room) x) (granted f)) w q) (v .0) (v .1) cut
 

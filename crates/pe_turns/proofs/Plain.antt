@@ -42,6 +42,7 @@ Unchanged p n header body count s calls =
     (some-calls : List Call) (buffer out : List ℕ) (more : List Call)
     → calls ≡ some-calls ++ turn buffer out ∷ more
     → length (left p s some-calls) < count
+    → (w : Written) → answer (stageFrom s some-calls) (turn buffer out) ≡ turned (granted (hands p w))
     → (headerIn buffer n ≡ header) × (bodyIn buffer n ≡ body)
 
 -- ---- one sequence behind another

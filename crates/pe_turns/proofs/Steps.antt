@@ -89,7 +89,8 @@ pub data Step (s : Stage) (p : ℕ) (c : Call) : Type 0 where
   quiet : ((told : List Answer) → turnsIn (answer s c ∷ told) ≡ turnsIn told) → placeAt (after s c) p ≡ placeAt s p → after s c .turn ≡ s .turn → Step s p c
   other : (q : ℕ) (f : Written) → ((told : List Answer) → turnsIn (answer s c ∷ told) ≡ hands q f ∷ turnsIn told) → eqb p q ≡ false
       → placeAt (after s c) p ≡ placeAt s p → distance p (after s c .turn % 16) < distance p (s .turn % 16) → Step s p c
-  ours : (f : Written) (buffer out : List ℕ) → c ≡ turn buffer out → ((told : List Answer) → turnsIn (answer s c ∷ told) ≡ hands p f ∷ turnsIn told)
+  ours : (f : Written) (buffer out : List ℕ) → c ≡ turn buffer out → answer s (turn buffer out) ≡ turned (granted (hands p f))
+      → ((told : List Answer) → turnsIn (answer s c ∷ told) ≡ hands p f ∷ turnsIn told)
       → askChunk buffer (length out) (placeAt s p) ≡ granted f → after s c ≡ afterTurn s (granted (hands p f)) → Step s p c
 
 pub step : (s : Stage) (p : ℕ) (c : Call) → length (s .places) ≡ 16 → isFree (placeAt s p) ≡ false → Step s p c
@@ -124,7 +125,7 @@ step s p (turn buffer out) g w = go (askTurn s buffer (length out)) refl
         by : (eqb p q ≡ true) ⊎ (eqb p q ≡ false) → Step s p (turn buffer out)
         by (inl y) =
             let h : q ≡ p = sym (eqb-true p q y) in
-            ours f buffer out refl
+            ours f buffer out refl (ap turned (e ∙ ap (λ (x : ℕ). granted (hands x f)) h))
             (λ told. tells told ∙ ap (λ (x : ℕ). hands x f ∷ turnsIn told) h)
             (ap (λ (x : ℕ). askChunk buffer (length out) (placeAt s x)) (sym h) ∙ t .1)
             (ap (afterTurn s) e ∙ ap (λ (x : ℕ). afterTurn s (granted (hands x f))) h)

@@ -17,9 +17,9 @@ use Rattle.pe_chunker.specs.Cut.{bodyPieces, cutCount}
 use Rattle.pe_chunker.proofs.ChunkLaws.{count-told}
 use Rattle.pe_stage.specs.declared.place.Outgoing.{Outgoing}
 use Rattle.pe_stage.specs.Stage.{Place, holding, Stage, freePlace, empty, isFree, placeAt, headerIn, bodyIn, askJoin, afterJoin, nextWaiting}
-use Rattle.pe_stage.specs.Stage.{Handout, askChunk, askTurn, afterTurn}
+use Rattle.pe_stage.specs.Stage.{Written, Handout, hands, askChunk, askTurn, afterTurn}
 use Rattle.pe_turns.specs.Calls.{Call, join, turn, Answer, joined, turned}
-use Rattle.pe_turns.specs.Turns.{isRefused, sentFrom, Leaves, TakingTurns}
+use Rattle.pe_turns.specs.Turns.{isRefused, sentFrom, LentUnchanged, Leaves, TakingTurns}
 use Rattle.pe_turns.proofs.Plain.{answer, after, stageFrom, left, plain, Unchanged, stage-append, left-then}
 use Rattle.pe_turns.proofs.Waiting.{low}
 use Rattle.pe_turns.proofs.Steps.{join-told, turn-nobody, sixteen, never-none, Step, quiet, other, ours, step}
@@ -51,7 +51,8 @@ unchanged s (turn buffer out) e = go (askTurn s buffer (length out)) e
 module _ (n : Outgoing) (header body : List ℕ) (count p : ℕ) (cut : length (bodyPieces (n .«max_sysex») (length header) body) ≡ count) where
   -- the last of its chunks
   one-more : (s : Stage) (k : ℕ) (c : Call) → length (s .places) ≡ 16 → placeAt s p ≡ holding n (suc k)
-      → ((buffer out : List ℕ) → c ≡ turn buffer out → (headerIn buffer n ≡ header) × (bodyIn buffer n ≡ body))
+      → ((buffer out : List ℕ) → c ≡ turn buffer out → (w : Written) → answer s (turn buffer out) ≡ turned (granted (hands p w))
+      → (headerIn buffer n ≡ header) × (bodyIn buffer n ≡ body))
       → k < count → k + length (left p s (c ∷ [])) ≡ count → isFree (placeAt (after s c) p) ≡ true
   one-more s k c g w u l e = go (step s p c g (ap isFree w ∙ holding-busy n k))
     where
@@ -61,8 +62,8 @@ module _ (n : Outgoing) (header body : List ℕ) (count p : ℕ) (cut : length (
           absurd
           (let z : length (left p s (c ∷ [])) ≡ 0 =
           ap (λ (x : List Handout). length (sentFrom p x)) (h []) ∙ ap (λ (b : Bool). length (cond b (f ∷ []) [])) nq in omega arith)
-      go (ours f buffer out i h q a) =
-          let v = u buffer out i in
+      go (ours f buffer out i o h q a) =
+          let v = u buffer out i f o in
           let is = chunk-sent buffer (length out) n (suc k) count header body f
           (subst (λ (x : Place). _≡_ (askChunk buffer (length out) x) (granted f)) w q) (v .0) (v .1) cut in
           let z : length (left p s (c ∷ [])) ≤ 1 = short (eqb p p) (ap (λ (x : List Handout). length (sentFrom p x)) (h [])) in
@@ -113,8 +114,9 @@ module _ (n : Outgoing) (header body : List ℕ) (count p : ℕ) (cut : length (
               → isFree (placeAt (stageFrom empty (since ++ calls)) p) ≡ true
           freed xs last i a b =
               let u′ : Unchanged p n header body (suc m) s xs =
-              (λ ys buffer out rest t l.
-              u ys buffer out (rest ++ last ∷ []) (i ∙ ap (λ (x : List Call). x ++ last ∷ []) t ∙ append-assoc ys (turn buffer out ∷ rest) (last ∷ [])) l) in
+              (λ ys buffer out rest t l x q.
+              u ys buffer out (rest ++ last ∷ [])
+              (i ∙ ap (λ (x : List Call). x ++ last ∷ []) t ∙ append-assoc ys (turn buffer out ∷ rest) (last ∷ [])) l x q) in
               let r = sofar n header body (suc m) p e xs s 0 m (good since) w (omega arith) u′ in
               let len : length (left p s xs) + length (left p (stageFrom s xs) (last ∷ [])) ≡ suc m =
               sym (length-append (left p s xs) (left p (stageFrom s xs) (last ∷ [])))
@@ -132,9 +134,16 @@ module _ (n : Outgoing) (header body : List ℕ) (count p : ℕ) (cut : length (
 pub told-once : {r q : Reply ℕ} → _≡_ {A = List Answer} (joined r ∷ []) (joined q ∷ []) → r ≡ q
 told-once e = cc
 
+-- the hypothesis, of the stage that the calls since have left
+plainly : (p : ℕ) (n : Outgoing) (header body : List ℕ) (count : ℕ) (since calls : List Call) → LentUnchanged plain p n header body count since calls
+    → Unchanged p n header body count (stageFrom empty since) calls
+plainly p n header body count since calls u = λ xs buffer out more e l w q.
+    u xs buffer out more e l w
+    (ap (λ (s : Stage). answer s (turn buffer out) ∷ []) (stage-append empty since xs) ∙ ap (λ (a : Answer). a ∷ []) q)
+
 joins : (before : List Call) (buffer : List ℕ) (p : ℕ) (n : Outgoing) (count : ℕ) (calls : List Call)
     → askJoin (stageFrom empty before) buffer p n ≡ granted count
-    → Unchanged p n (headerIn buffer n) (bodyIn buffer n) count (stageFrom empty (before ++ join buffer p n ∷ [])) calls
+    → LentUnchanged plain p n (headerIn buffer n) (bodyIn buffer n) count (before ++ join buffer p n ∷ []) calls
     → Leaves plain p n (headerIn buffer n) (bodyIn buffer n) count (before ++ join buffer p n ∷ []) calls
 joins before buffer p n count calls q u =
     let s = stageFrom empty before in
@@ -146,7 +155,7 @@ joins before buffer p n count calls q u =
     (ap (λ (x : Stage). placeAt x p) (stage-append empty before (join buffer p n ∷ []))
     ∙ ap (λ (r : Reply ℕ). placeAt (afterJoin s p n r) p) q
     ∙ getD-set-same (s .places) p (holding n 1) freePlace (omega arith))
-    (some-count count (t .3)) (t .3) u
+    (some-count count (t .3)) (t .3) (plainly p n (headerIn buffer n) (bodyIn buffer n) count (before ++ join buffer p n ∷ []) calls u)
   where
     some-count : (x : ℕ) → cutCount (n .«request_id») (headerIn buffer n) (bodyIn buffer n) (n .«max_sysex») ≡ granted x → 0 < x
     some-count zero e = absurd (count-some (n .«request_id») (headerIn buffer n) (bodyIn buffer n) (n .«max_sysex») e)

@@ -1,5 +1,6 @@
--- A run that meets every hypothesis: a list of two chunks joins at place 3, another one in the middle at place 7, and one turn is refused. Before it
--- a turn with nobody waiting, and a join at a place that is not there; the lent numbers held other things before `new`, and are longer than a stage.
+-- A sequence that meets the hypotheses of `served`, `leaves` and `complete`: a list of two chunks joins at place 3, another one in the middle at
+-- place 7, and one turn is refused. Before it a turn with nobody waiting, and a join at a place that is not there; the lent numbers held other things
+-- before `new`, and are longer than a stage.
 -- Assumes nothing.
 use Prim.Native.Nat.{ℕ}
 use mathlib.Core.List.{List, [], _∷_, _++_}
@@ -34,7 +35,8 @@ tight = replicate 8 0
 abbrev pub before : List Call
 before = turn [] [] ∷ join buffer 16 long ∷ []
 
--- At the busy place a join is refused; the turn with the tight output is refused, and the next one hands out what it would have.
+-- At the busy place a join is refused; the turn with the tight output is refused, and the next one hands out what it would have. In the last turns
+-- nobody waits: there are 32 that are not refused, 16 for each chunk of the first list.
 abbrev pub calls : List Call
 calls =
     join buffer 3 brief
@@ -43,5 +45,4 @@ calls =
     ∷ turn buffer tight
     ∷ turn buffer roomy
     ∷ turn buffer roomy
-    ∷ turn buffer []
-    ∷ []
+    ∷ replicate 29 (turn buffer [])

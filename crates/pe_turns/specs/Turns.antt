@@ -27,7 +27,7 @@ turnsIn (joined r ∷ told) = turnsIn told
 turnsIn (turned (granted t) ∷ told) = t ∷ turnsIn told
 turnsIn (turned (refused number value) ∷ told) = turnsIn told
 
--- Is the place among those that are handed a turn?
+-- Is the place among those from which a turn hands out?
 abbrev pub isServed : ℕ → List Handout → Bool
 isServed p [] = false
 isServed p (nobody ∷ turns) = isServed p turns
@@ -57,13 +57,14 @@ abbrev pub allOf : Outgoing → List ℕ → List ℕ → ℕ → List Written
 allOf list header body count = chunksFrom list header body count 1 count
 
 -- ---- a list that has joined; `since` are the calls up to that join, and `calls` follow
--- "A list's bytes are lent unchanged until its last frame has left.": where its parts lie, each turn's buffer has its header and body as long as
--- fewer than count have left from its place.
+-- "A list's bytes are lent unchanged until its last frame has left.": where its parts lie, the buffer of each turn that hands out from its place has
+-- its header and body, as long as fewer than count have left.
 abbrev pub LentUnchanged : Seen → ℕ → Outgoing → List ℕ → List ℕ → ℕ → List Call → List Call → Type 0
 LentUnchanged s p list header body count since calls =
     (some-calls : List Call) (buffer out : List ℕ) (more : List Call)
     → calls ≡ some-calls ++ turn buffer out ∷ more
     → length (sent p (s .told since some-calls)) < count
+    → (w : Written) → s .told (since ++ some-calls) (turn buffer out ∷ []) ≡ turned (granted (hands p w)) ∷ []
     → (headerIn buffer list ≡ header) × (bodyIn buffer list ≡ body)
 
 -- In the calls from there on:
@@ -104,6 +105,6 @@ pub record TakingTurns (s : Seen) : Type 0 where
   pub refusals : (before : List Call) (c : Call) (a : Answer) → s .told before (c ∷ []) ≡ a ∷ [] → isRefused a ≡ true
       → s .held (before ++ c ∷ []) ≡ s .held before
 
--- "stage memory long enough": 113 numbers, whatever they hold before `new`.
+-- Memory long enough is 113 numbers, whatever they hold before `new`.
 abbrev pub K8 : Type 0
 K8 = (words : List ℕ) → 113 ≤ length words → TakingTurns (seenOn words)

@@ -104,7 +104,8 @@ returns-5 c =
     let l : 9 + length (k .header) + length (k .property) ≤ room (up2 p) = omega (arith, size p, c .if3 .left) in
     let e : length (chunkBytes k) ≡ 9 + length (k .header) + length (k .property) = unfold chunkLen in chunk-length k in
     rw (written p, write-granted k (room (up2 p)) (in-range p) l)
-    (counted-wrote _ (chunkBytes k) lent _ _ _ (cut (up2 p) .1) (e ∙ sym (size p)) (p .put-piece .ensures .1 ∙ fit-front lent (chunkBytes k) (omega (arith, e))))
+    (counted-wrote _ (chunkBytes k) lent _ _ _ (cut (up2 p) .1) (e ∙ sym (size p))
+    (p .put-piece .ensures .1 ∙ fit-front lent (chunkBytes k) (omega (arith, e))))
 
 pub split-counted-spec : {M : Type 1} → statement M
 split-counted-spec =

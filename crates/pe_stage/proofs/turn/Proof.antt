@@ -11,7 +11,7 @@ use Rattle.seven_bit.specs.Reply.{granted}
 use Rattle.pe_chunker.specs.declared.Counted.{Counted}
 use Rattle.pe_chunker.specs.Cut.{counted, countedTold, counting}
 use Rattle.pe_stage.specs.Stage.{nextWaiting, chunkIn, chunksIn}
-use Rattle.pe_stage.specs.Words.{stageIn, HasPlaces, waitingTold}
+use Rattle.pe_stage.specs.Words.{stageIn, HasPlaces, nextTold}
 use Rattle.pe_stage.proofs.CallLaws.{written-number, turn-short, turn-nobody, turn-refused, turn-granted, next-within}
 
 -- the place that waits, and that it is one of the 16
@@ -19,7 +19,7 @@ abbrev start : tie.After-p → tie.Start
 start c = c .before .before .before .before .before .before .before .before
 
 waits : (c : tie.After-p) → nextWaiting (stageIn (now (start c .args .stage))) ≡ some (c .p .given .0 .0)
-waits c = sym (c .before .before .next-waiting .ensures) ∙ ap waitingTold (c .p .given .1)
+waits c = sym (c .before .before .next-waiting .ensures) ∙ ap nextTold (c .p .given .1)
 
 asked : (c : tie.After-p) → HasPlaces (now (start c .args .stage))
 asked c = c .before .before .before .before .if1 .left
@@ -67,7 +67,7 @@ same-length c = search needs
 returns-2 : tie.Need-returns-2
 returns-2 c =
     let w = c .before .before in
-    sym (turn-nobody _ _ _ (w .before .before .if1 .left) (sym (w .next-waiting .ensures) ∙ ap waitingTold (c .enum-told .given .1)))
+    sym (turn-nobody _ _ _ (w .before .before .if1 .left) (sym (w .next-waiting .ensures) ∙ ap nextTold (c .enum-told .given .1)))
 
 list-at-requires : tie.Need-list-at-requires
 list-at-requires c κs = (asked (c .before .before), within (c .before .before))

@@ -8,7 +8,7 @@ use borrow.Author.Tests.{not-true, not-false}
 use Rattle.pe_stage.proofs.cut.chunk_in.Statement.{statement}
 use Rattle.pe_stage.proofs.cut.chunk_in.Tie as tie
 use Rattle.pe_stage.specs.Stage.{isInside}
-use Rattle.pe_stage.proofs.CutLaws.{inside-told, chunk-outside, counting-handed}
+use Rattle.pe_stage.proofs.CutLaws.{inside-told, chunk-outside, counting-lent}
 
 -- the list is inside
 inside : (c : tie.Else1) → isInside (now (c .before .before .before .before .args .buffer)) (c .before .before .before .before .args .list) ≡ true
@@ -81,7 +81,7 @@ returns-2 c =
     let p = m .before .before .before in
     let s = p .before .before .before .before .before in
     g .split-counted .ensures
-    ∙ counting-handed _ _ (s .args .chunk-num) _ _ _ _ _ (inside (p .before)) (p .at-most .ensures) (m .at-most2 .ensures) (n .at-most3 .ensures)
+    ∙ counting-lent _ _ (s .args .chunk-num) _ _ _ _ _ (inside (p .before)) (p .at-most .ensures) (m .at-most2 .ensures) (n .at-most3 .ensures)
 
 pub chunk-in-spec : {M : Type 1} → statement M
 chunk-in-spec =

@@ -7,7 +7,7 @@ use borrow.Author.Tests.{not-true, not-false}
 use Rattle.pe_stage.proofs.cut.count_in.Statement.{statement}
 use Rattle.pe_stage.proofs.cut.count_in.Tie as tie
 use Rattle.pe_stage.specs.Stage.{isInside}
-use Rattle.pe_stage.proofs.CutLaws.{inside-told, count-outside, count-handed}
+use Rattle.pe_stage.proofs.CutLaws.{inside-told, count-outside, count-lent}
 
 -- the list is inside
 inside : (c : tie.Else1) → isInside (now (c .before .before .before .args .buffer)) (c .before .before .before .args .list) ≡ true
@@ -64,7 +64,7 @@ chunk-count-requires c κs = search needs
 returns-2 : tie.Need-returns-2
 returns-2 c =
     let p = c .before .before .before .before in
-    c .chunk-count .ensures ∙ count-handed _ _ _ _ (inside (p .before)) (p .at-most .ensures) (c .before .at-most2 .ensures)
+    c .chunk-count .ensures ∙ count-lent _ _ _ _ (inside (p .before)) (p .at-most .ensures) (c .before .at-most2 .ensures)
 
 pub count-in-spec : {M : Type 1} → statement M
 count-in-spec =
