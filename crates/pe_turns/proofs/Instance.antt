@@ -43,7 +43,7 @@ lent-all s p n header body count since cs a = λ xs b out more e l w q. at-turn 
 seen : seenOn lentWords ≡ plain
 seen = seen-plain lentWords (omega arith)
 
-abbrev since : List Call
+abbrev pub since : List Call
 since = before ++ join buffer 3 long ∷ []
 
 -- the answers: to the calls before, to the join, and to those behind it
@@ -51,7 +51,7 @@ before-told : plain .told [] before ≡ turned (granted nobody) ∷ joined (refu
 unfolding askTurn firstWaiting askJoin
 before-told = refl
 
-abbrev count : ℕ
+abbrev pub count : ℕ
 count = 2
 
 join-told : plain .told before (join buffer 3 long ∷ []) ≡ joined (granted count) ∷ []

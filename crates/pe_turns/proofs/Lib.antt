@@ -7,3 +7,4 @@ pub mod Theorem
 pub mod Lent
 pub mod Forward
 pub mod Instance
+pub mod Forwarded

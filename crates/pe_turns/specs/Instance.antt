@@ -1,6 +1,6 @@
 -- A sequence that meets the hypotheses of `served`, `leaves` and `complete`: a list of two chunks joins at place 3, another one in the middle at
 -- place 7, and one turn is refused. Before it a turn with nobody waiting, and a join at a place that is not there; the lent numbers held other things
--- before `new`, and are longer than a stage.
+-- before `new`, and are longer than a stage. Fed as it left, the first list meets those of `Forwards` too.
 -- Assumes nothing.
 use Prim.Native.Nat.{ℕ}
 use mathlib.Core.List.{List, [], _∷_, _++_}
