@@ -16,7 +16,7 @@ use Rattle.pe_run.proofs.Instance.{arrives-first, message-arrives}
 use Rattle.pe_run.proofs.InstanceTold.{memory-long}
 use Rattle.pe_turns.specs.Calls.{seenOn}
 use Rattle.pe_turns.specs.Turns.{sent, allOf}
-use Rattle.pe_turns.specs.Forward.{Fed}
+use Rattle.pe_turns.specs.Forward.{FedAsLeft}
 use Rattle.pe_turns.specs.Instance.{lentWords, buffer, long, before, calls}
 use Rattle.pe_turns.proofs.Instance.{since, count, instance, both-in-order, all-left}
 use Rattle.pe_turns.proofs.Forward.{forwarding}
@@ -36,7 +36,7 @@ same-chunks = refl
 arrived : map (λ (a : Arrival). a .bytes) (ours (fullSize 2) 9 5 (first ∷ rest)) ≡ chunkBytes one ∷ chunkBytes two ∷ []
 arrived = rw (message-arrives, arrives-first) refl
 
-pub fed-as-left : Fed 2 [] 9 5 (bodyIn buffer long) (take count (sent 3 (seenOn lentWords .told since calls))) first rest
+pub fed-as-left : FedAsLeft 2 [] 9 5 (bodyIn buffer long) (take count (sent 3 (seenOn lentWords .told since calls))) first rest
 unfolding findsRecord
 fed-as-left =
     record {

@@ -17,7 +17,7 @@ use Rattle.pe_turns.specs.Turns.{sent, LentUnchanged}
 
 -- Chunks that left are fed as they left to a full-size table of n peers: under one peer and the list's request id just these arrive, in this order,
 -- and the table has room for the list, as demand 3 asks of any other.
-pub record Fed (n : ℕ) (b : Model) (peer request-id : ℕ) (body : List ℕ) (left : List Written) (first : TableCall) (rest : List TableCall) : Type 0 where
+pub record FedAsLeft (n : ℕ) (b : Model) (peer request-id : ℕ) (body : List ℕ) (left : List Written) (first : TableCall) (rest : List TableCall) : Type 0 where
   pub fits : length body ≤ 65536
   pub first-of-them : isOurs (fullSize n) peer request-id first ≡ true
   pub room : Room n peer request-id b
@@ -33,7 +33,7 @@ Forwards s =
     → count ≤ length (sent p (s .told (before ++ join buffer p list ∷ []) calls))
     → (n : ℕ) (t : Table) → n ≤ 16 → LongEnough n t
     → (earlier : List TableCall) (peer : ℕ) (first : TableCall) (rest : List TableCall) (told : List TableAnswer)
-    → Fed n (modelAfter (fullSize n) earlier .model) peer (list .«request_id») (bodyIn buffer list)
+    → FedAsLeft n (modelAfter (fullSize n) earlier .model) peer (list .«request_id») (bodyIn buffer list)
     (take count (sent p (s .told (before ++ join buffer p list ∷ []) calls))) first rest
     → Run (fullSize n) (tableFrom (fullSize n) (made (fullSize n) t) earlier) (first ∷ rest) told
     → answersTo (fullSize n) peer (list .«request_id») (first ∷ rest) told
