@@ -21,7 +21,7 @@ use midici_core::spec::KindFound;
 
 // A kind's row; all 0 where it is none of the nine.
 #[repr(C)]
-#[derive(Drop)]
+#[derive(Clone, Copy)]
 pub struct KindAnswer {
     pub known: bool,
     pub sub_id2: u8,
@@ -30,14 +30,14 @@ pub struct KindAnswer {
 }
 
 #[repr(C)]
-#[derive(Drop)]
+#[derive(Clone, Copy)]
 pub struct GeneratedAnswer {
     pub found: bool,
     pub number: u32,
 }
 
 #[repr(C)]
-#[derive(Drop)]
+#[derive(Clone, Copy)]
 pub struct HeaderFields {
     pub device_id: u8,
     pub sub_id2: u8,
@@ -47,7 +47,7 @@ pub struct HeaderFields {
 }
 
 #[repr(C)]
-#[derive(Drop)]
+#[derive(Clone, Copy)]
 pub struct HeaderAnswer {
     pub refusal: u8,
     pub value: u8,
@@ -55,7 +55,7 @@ pub struct HeaderAnswer {
 }
 
 #[repr(C)]
-#[derive(Drop)]
+#[derive(Clone, Copy)]
 pub struct CapsAnswer {
     pub refusal: u8,
     pub value: u8,
@@ -66,7 +66,7 @@ pub struct CapsAnswer {
 }
 
 #[repr(C)]
-#[derive(Drop)]
+#[derive(Clone, Copy)]
 pub struct MessageAnswer {
     pub refusal: u8,
     pub value: u8,

@@ -18,7 +18,7 @@ use pe_wire::wire::U14;
 
 // With a refusal every other field is 0; else the refusal's number and value are 0.
 #[repr(C)]
-#[derive(Drop)]
+#[derive(Clone, Copy)]
 pub struct ChunkAnswer {
     pub refusal: u8,
     pub value: u8,

@@ -8,7 +8,7 @@ use pe_slot::meta::{Found, position_of};
 
 // A record's place; all 0 where there is none.
 #[repr(C)]
-#[derive(Drop)]
+#[derive(Clone, Copy)]
 pub struct PlaceAnswer {
     pub found: bool,
     pub place: u64,

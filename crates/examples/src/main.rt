@@ -1,5 +1,7 @@
 // Document 01's examples in its order, and K6's, by the functions themselves. Those that are marked, and K6's, are also proved of the
 // definitions (specs/).
+#![tactic(auto)]
+
 mod codec;
 mod cut;
 mod print;

@@ -1,4 +1,6 @@
 // One flat JSON object (RFC 8259), read byte by byte by a table of next states.
+#![tactic(auto)]
+
 pub mod states;
 
 ghost use Rattle.std.specs.Prelude.{◌≡◌};
@@ -7,7 +9,7 @@ ghost use Rattle.flat_json.specs.Table.{next, turned, reached};
 use crate::states::{DEAD, STATES};
 
 // Where a reading stands: a place of the text, and the state there.
-#[derive(Drop)]
+#[derive(Clone, Copy)]
 pub struct Spot {
     pub place: usize,
     pub state: u8,

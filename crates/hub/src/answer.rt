@@ -16,7 +16,7 @@ use pe_wire::wire::Encoded;
 
 // The refusal's number, 0 where there is none; the kind that refusal 24 carries, else 0; what is counted, 0 with a refusal.
 #[repr(C)]
-#[derive(Drop)]
+#[derive(Clone, Copy)]
 pub struct Answer {
     pub refusal: u8,
     pub value: u8,
@@ -25,7 +25,7 @@ pub struct Answer {
 
 // What feeding a chunk answers: whole is 1 with a whole list, whose lengths then stand here.
 #[repr(C)]
-#[derive(Drop)]
+#[derive(Clone, Copy)]
 pub struct FedAnswer {
     pub refusal: u8,
     pub value: u8,
@@ -36,7 +36,7 @@ pub struct FedAnswer {
 
 // The totals; all 0 with a refusal.
 #[repr(C)]
-#[derive(Drop)]
+#[derive(Clone, Copy)]
 pub struct StatsAnswer {
     pub refusal: u8,
     pub value: u8,

@@ -27,7 +27,7 @@ pub extern "C" fn midici_pe_chunk_count(
 
 // The refusal's number, 0 where there is none; how many chunks there are, and how many bytes in all of them, both 0 with a refusal.
 #[repr(C)]
-#[derive(Drop)]
+#[derive(Clone, Copy)]
 pub struct CutAnswer {
     pub refusal: u8,
     pub chunks: u64,

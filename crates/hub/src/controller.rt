@@ -6,7 +6,7 @@ use pe_controller::RequestCounter;
 
 // The id that is handed out, and the counter after it.
 #[repr(C)]
-#[derive(Drop)]
+#[derive(Clone, Copy)]
 pub struct RequestId {
     pub request_id: u8,
     pub counter: u8,

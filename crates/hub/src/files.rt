@@ -8,7 +8,7 @@ use syx::Listed;
 
 // The refusal's number, 0 where there is none; how many messages are listed, and how many were torn, both 0 with a refusal.
 #[repr(C)]
-#[derive(Drop)]
+#[derive(Clone, Copy)]
 pub struct SyxAnswer {
     pub refusal: u8,
     pub messages: u64,

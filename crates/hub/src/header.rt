@@ -7,7 +7,7 @@ use pe_header::{Found, Kind};
 
 // The refusal's number, 0 where there is none; the value's kind, 0 where the name is absent; place and length of its bytes in the header.
 #[repr(C)]
-#[derive(Drop)]
+#[derive(Clone, Copy)]
 pub struct FoundAnswer {
     pub refusal: u8,
     pub kind: u8,

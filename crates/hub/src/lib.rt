@@ -1,4 +1,6 @@
 // What the hub's C program calls: numbers and slices go in, a struct of numbers comes out.
+#![tactic(auto)]
+
 pub mod answer;
 pub mod chunks;
 pub mod controller;

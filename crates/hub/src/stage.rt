@@ -13,7 +13,7 @@ use pe_stage::{Joined, Made, Turned};
 // The refusal's number, 0 where there is none; handed is 1 with a chunk, whose number, count, place and length then stand here, and 0 where nobody
 // waits.
 #[repr(C)]
-#[derive(Drop)]
+#[derive(Clone, Copy)]
 pub struct TurnAnswer {
     pub refusal: u8,
     pub handed: u8,

@@ -1,5 +1,7 @@
 // The whole-message entry, in a library of its own: `make lib` puts it beside hub's exports. The compiler builds a function into the one
 // place that calls it, so each of the two entries has the feed built in.
+#![tactic(auto)]
+
 ghost use Rattle.std.specs.Prelude.{◌≡◌};
 ghost use Rattle.pe_reassembler.specs.Feed.{memory, message_call};
 ghost use Rattle.hub.specs.Answers.{left};

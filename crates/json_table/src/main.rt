@@ -1,4 +1,6 @@
 // Prints the table of next states: a line of decimal numbers, a space between, for each state.
+#![tactic(auto)]
+
 ghost use Rattle.std.specs.Prelude.{◌<◌};
 
 use libc::STDOUT_FILENO;

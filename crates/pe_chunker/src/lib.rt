@@ -1,4 +1,6 @@
 // From chunker.rs: a header and a body cut into chunks that fit a SysEx message of a given size.
+#![tactic(auto)]
+
 mod piece;
 pub mod split;
 
@@ -20,21 +22,21 @@ pub const MAX_SYSEX_MIN: u32 = 128;
 pub const MAX_SYSEX_MAX: u32 = 16384;
 
 // How many property bytes fit, or why none does.
-#[derive(Drop)]
+#[derive(Clone, Copy)]
 pub enum Capacity {
     Bytes(usize),
     Refused(PeError),
 }
 
 // How many chunks a list is cut into, or why it is not.
-#[derive(Drop)]
+#[derive(Clone, Copy)]
 pub enum ChunkCount {
     Chunks(u16),
     Refused(PeError),
 }
 
 // How many chunks there are, and how many bytes of this one were written, or why it was not.
-#[derive(Drop)]
+#[derive(Clone, Copy)]
 pub enum Counted {
     Wrote(u16, usize),
     Refused(PeError),

@@ -9,7 +9,7 @@ use crate::{ChunkCount, chunk_count};
 use pe_frame::frame::PE_FRAMING_LEN;
 use pe_wire::error::PeError;
 
-#[derive(Drop)]
+#[derive(Clone, Copy)]
 pub enum Chunked {
     // So many chunks, and so many bytes in all of them.
     Written(usize, usize),

@@ -1,15 +1,17 @@
 // From controller.rs: the request counter, and how many requests two sides settle on.
+#![tactic(auto)]
+
 ghost use Rattle.std.specs.Prelude.{◌≡◌};
 ghost use Rattle.pe_controller.specs.Controller.{stepped, negotiated};
 
 // The counter of request ids, any of 256 values.
-#[derive(Drop)]
+#[derive(Clone, Copy)]
 pub struct RequestCounter {
     pub next: u8,
 }
 
 // The id that is handed out, and the counter after it.
-#[derive(Drop)]
+#[derive(Clone, Copy)]
 pub struct Allocated {
     pub request_id: u8,
     pub counter: RequestCounter,

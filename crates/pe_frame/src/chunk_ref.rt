@@ -11,7 +11,7 @@ use crate::frame::{ChunkFields, ChunkRead, HEADER_AT, decode_fields, encode};
 use pe_wire::error::PeError;
 use pe_wire::wire::Encoded;
 
-#[derive(Drop)]
+#[derive(Clone, Copy)]
 pub struct PeChunkRef<'a> {
     pub request_id: u8,
     pub header: &'a [u8],
@@ -21,21 +21,21 @@ pub struct PeChunkRef<'a> {
     pub property: &'a [u8],
 }
 
-#[derive(Drop)]
+#[derive(Clone, Copy)]
 pub enum Decoded {
     Read,
     Refused(PeError),
 }
 
 // An enum can't hold a reference: the answer stands beside the chunk, which is empty where it is a refusal.
-#[derive(Drop)]
+#[derive(Clone, Copy)]
 pub struct ChunkRefRead<'a> {
     pub answer: Decoded,
     pub chunk: PeChunkRef<'a>,
 }
 
 // The same over numbers.
-#[derive(Drop)]
+#[derive(Clone, Copy)]
 struct FieldsFound {
     answer: Decoded,
     fields: ChunkFields,

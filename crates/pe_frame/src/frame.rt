@@ -24,7 +24,7 @@ pub const REQUEST_ID_MAX: u8 = 0x7F;
 pub const MAX_HEADER_BYTES: usize = 4096;
 
 // What reading a chunk finds: its header starts at HEADER_AT, its property at property_at.
-#[derive(Drop)]
+#[derive(Clone, Copy)]
 pub struct ChunkFields {
     pub request_id: u8,
     pub header_len: usize,
@@ -34,7 +34,7 @@ pub struct ChunkFields {
     pub property_len: usize,
 }
 
-#[derive(Drop)]
+#[derive(Clone, Copy)]
 pub enum ChunkRead {
     Value(ChunkFields),
     Refused(PeError),
@@ -132,7 +132,7 @@ pub fn decode_fields(data: &[u8]) -> ChunkRead
 }
 
 // How long a chunk is, or why it can't be written.
-#[derive(Drop)]
+#[derive(Clone, Copy)]
 pub(crate) enum ChunkLen {
     Bytes(usize),
     Refused(PeError),

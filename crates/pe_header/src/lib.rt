@@ -1,4 +1,6 @@
 // What a header says under a name: the header is read as one flat JSON object.
+#![tactic(auto)]
+
 mod members;
 mod names;
 
@@ -13,7 +15,7 @@ use crate::members::{Value, read_members};
 use crate::names::stands_twice;
 use flat_json::states::{AFTER_VALUE, DONE, IN_FALSE, IN_NUMBER, IN_STRING, IN_TRUE};
 
-#[derive(Drop)]
+#[derive(Clone, Copy)]
 pub enum JsonError {
     // The header has more than 4,096 bytes.
     HeaderTooLong,
@@ -36,7 +38,7 @@ impl JsonError {
     }
 }
 
-#[derive(Drop)]
+#[derive(Clone, Copy)]
 pub enum Kind {
     String,
     Number,
@@ -45,7 +47,7 @@ pub enum Kind {
     Null,
 }
 
-#[derive(Drop)]
+#[derive(Clone, Copy)]
 pub enum Found {
     // The value's kind, and place and length of its bytes in the header, a string's without the quotation marks.
     Value(Kind, u64, u64),

@@ -13,7 +13,7 @@ use flat_json::states::{
 use flat_json::{Spot, reach, turn};
 
 // A value that was read: the state behind its first byte, which tells its kind, place and end of its bytes, and where the reading stands.
-#[derive(Drop)]
+#[derive(Clone, Copy)]
 pub(crate) struct Value {
     pub(crate) state: u8,
     pub(crate) place: usize,
@@ -65,7 +65,7 @@ pub(crate) fn value_of(table: &[u8; 3840], text: &[u8], name: Spot) -> Value
 
 // How far the members were read: where the reading stands, how many names were noted, whether no number so far is above 65,535, and the first value
 // under the name that is looked for; its state is 0 while there is none.
-#[derive(Drop)]
+#[derive(Clone, Copy)]
 pub(crate) struct Walk {
     pub(crate) at: Spot,
     pub(crate) names: usize,

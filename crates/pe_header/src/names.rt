@@ -17,7 +17,7 @@ const SHORT_BLOCK: usize = 8;
 const NO_UNIT: u32 = 65536;
 
 // A unit of a name, and the place behind it; NO_UNIT where the name is over.
-#[derive(Drop)]
+#[derive(Clone, Copy)]
 struct Unit {
     unit: u32,
     next: usize,

@@ -1,4 +1,6 @@
 // From mcoded7.rs: bytes of eight bits as bytes of seven, in groups of a flag byte and up to seven bytes.
+#![tactic(auto)]
+
 mod groups;
 
 ghost use Rattle.std.specs.Prelude.{◌≡◌, length};

@@ -18,33 +18,33 @@ use midici_core::muid::Muid;
 use pe_slot::layout::{HEADER_LEN, INDEX_LEN, PROPERTY_BYTES};
 use pe_wire::error::PeError;
 
-#[derive(Drop)]
+#[derive(Clone, Copy)]
 pub enum Made {
     Done,
     Refused(PeError),
 }
 
 // Whether a slot was closed.
-#[derive(Drop)]
+#[derive(Clone, Copy)]
 pub enum Cancelled {
     Answer(bool),
     Refused(PeError),
 }
 
-#[derive(Drop)]
+#[derive(Clone, Copy)]
 pub enum Count {
     Number(u64),
     Refused(PeError),
 }
 
-#[derive(Drop)]
+#[derive(Clone, Copy)]
 pub struct MemoryStats {
     pub reserved_bytes: u64,
     pub active_bytes: u64,
     pub active_slots: u64,
 }
 
-#[derive(Drop)]
+#[derive(Clone, Copy)]
 pub enum Stats {
     Totals(MemoryStats),
     Refused(PeError),
@@ -114,7 +114,7 @@ pub fn new(
 }
 
 // What a call on a peer finds first: its record, none, or that the call is refused.
-#[derive(Drop)]
+#[derive(Clone, Copy)]
 pub(crate) enum PeerFound {
     At(usize),
     Nothing,

@@ -1,4 +1,6 @@
 // From reassembler.rs, Reassembler: the calls over lent memory.
+#![tactic(auto)]
+
 pub mod calls;
 pub mod feed;
 pub mod open;

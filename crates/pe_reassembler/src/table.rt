@@ -28,7 +28,7 @@ pub(crate) const PEER_WORDS: usize = PEER_OWN_WORDS + MAX_CONCURRENT_PER_PEER * 
 pub(crate) const MUID: usize = 1;
 
 // A record or a slot, or none.
-#[derive(Drop)]
+#[derive(Clone, Copy)]
 pub(crate) enum Place {
     At(usize),
     Nothing,

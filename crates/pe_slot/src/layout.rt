@@ -22,7 +22,7 @@ pub const INDEX_LEN: usize = 7;
 pub const PROPERTY_BYTES: usize = 8;
 
 // Its words by their names.
-#[derive(Drop)]
+#[derive(Clone, Copy)]
 pub struct TxSlot {
     pub active: u64,
     pub request_id: u64,

@@ -6,14 +6,14 @@ ghost use Rattle.pe_slot.specs.Records.{place_of};
 use super::layout::MAX_FRAGMENT_RECORDS;
 
 // A record: chunk number, length, and offset in the arena. In this order it has 8 bytes.
-#[derive(Drop)]
+#[derive(Clone, Copy)]
 pub struct FragmentMeta {
     pub chunk_num: u16,
     pub len: u16,
     pub offset: u32,
 }
 
-#[derive(Drop)]
+#[derive(Clone, Copy)]
 pub enum Found {
     At(usize),
     Absent,

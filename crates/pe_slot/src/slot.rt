@@ -19,14 +19,14 @@ use pe_wire::error::PeError;
 use pe_wire::wire::U14_MAX;
 
 // When a chunk comes: the time, and the tick that it gives its slot.
-#[derive(Drop)]
+#[derive(Clone, Copy)]
 pub struct Moment {
     pub now_ms: u64,
     pub tick: u64,
 }
 
 // What feeding a chunk answers: Whole has the lengths of header and body in the outputs.
-#[derive(Drop)]
+#[derive(Clone, Copy)]
 pub enum Fed {
     Waiting,
     Whole(usize, usize),
@@ -109,7 +109,7 @@ fn ends_at(laid: bool, end: u64, property_bytes: u64) -> bool
 }
 
 // The answer to document 01's question 31, and of a sound slot also whether a chunk number is held: one pass over the records tells both.
-#[derive(Drop)]
+#[derive(Clone, Copy)]
 pub(crate) enum Soundness {
     Sound(bool),
     Damaged,
@@ -154,7 +154,7 @@ fn same(a: &[u8], b: &[u8]) -> bool
 }
 
 // What a question of a chunk has as its answer.
-#[derive(Drop)]
+#[derive(Clone, Copy)]
 pub(crate) enum Asked {
     Yes,
     No(PeError),

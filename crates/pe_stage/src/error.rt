@@ -4,7 +4,7 @@ ghost use Rattle.pe_stage.specs.Errors.{stage_number, stage_value};
 
 use pe_wire::error::PeError;
 
-#[derive(Drop)]
+#[derive(Clone, Copy)]
 pub enum StageError {
     // A place above 15.
     NoSuchPlace,

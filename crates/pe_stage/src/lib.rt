@@ -1,5 +1,7 @@
 // The outgoing stage: 16 places that take turns, each holding one list that is being cut. A stage is numbers that the caller lends; the lists' bytes
 // stay in one buffer, lent with each call.
+#![tactic(auto)]
+
 mod cut;
 pub mod error;
 pub mod place;
@@ -16,21 +18,21 @@ use crate::place::{
 use pe_chunker::{ChunkCount, Counted};
 use pe_wire::error::PeError;
 
-#[derive(Drop)]
+#[derive(Clone, Copy)]
 pub enum Made {
     Done,
     Refused(StageError),
 }
 
 // How many chunks will leave.
-#[derive(Drop)]
+#[derive(Clone, Copy)]
 pub enum Joined {
     Chunks(u16),
     Refused(StageError),
 }
 
 // What a turn hands out: the place, the number of its chunk, their count, and the bytes that the chunk has in the lent output.
-#[derive(Drop)]
+#[derive(Clone, Copy)]
 pub struct Handed {
     pub place: usize,
     pub chunk_num: u16,
@@ -38,7 +40,7 @@ pub struct Handed {
     pub len: usize,
 }
 
-#[derive(Drop)]
+#[derive(Clone, Copy)]
 pub enum Turned {
     Hands(Handed),
     Nobody,

@@ -33,7 +33,7 @@ const NEXT_CHUNK: usize = 6;
 // A list on its way out: where its header and its body lie in the lent buffer, its request id, and the limit of a message. C programs pass it by
 // value. Numbers that are too large for the cutter are refused or clamped like those that are just too large, and never cut short.
 #[repr(C)]
-#[derive(Drop)]
+#[derive(Clone, Copy)]
 pub struct Outgoing {
     pub header_at: u64,
     pub header_len: u64,
@@ -44,7 +44,7 @@ pub struct Outgoing {
 }
 
 // The place that is next, or none.
-#[derive(Drop)]
+#[derive(Clone, Copy)]
 pub(crate) enum NextPlace {
     At(usize),
     Nobody,

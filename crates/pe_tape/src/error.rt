@@ -4,7 +4,7 @@ ghost use Rattle.pe_tape.specs.Told.{tape_number};
 
 use pe_wire::error::PeError;
 
-#[derive(Drop)]
+#[derive(Clone, Copy)]
 pub enum TapeError {
     // No command has this byte.
     UnknownCommand,

@@ -1,4 +1,6 @@
 // Tapes of what a hub received: their commands read and written, and played on a table.
+#![tactic(auto)]
+
 pub mod command;
 pub mod error;
 pub mod line;

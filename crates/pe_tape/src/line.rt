@@ -11,7 +11,7 @@ use crate::error::TapeError;
 pub const LINE_LEN: usize = 46;
 
 // What a line shows behind its command: a number, a refusal's number, or the two lengths of a whole list.
-#[derive(Drop)]
+#[derive(Clone, Copy)]
 pub(crate) enum Shown {
     Bare(u64),
     Marked(u8),
@@ -78,7 +78,7 @@ pub(crate) fn put_line(out: &mut [u8], at: usize, kind: u8, shown: Shown) -> usi
 }
 
 // A line of at most 22 bytes: an r, a number of 64 bits, the line's end.
-#[derive(Drop)]
+#[derive(Clone, Copy)]
 pub struct LastLine {
     pub bytes: [u8; 22],
     pub len: usize,

@@ -32,7 +32,7 @@ pub const SHAPE: Shape = Shape {
     fragment_records: 64,
 };
 
-#[derive(Drop)]
+#[derive(Clone, Copy)]
 pub enum Stop {
     // All bytes are played.
     End,
@@ -40,7 +40,7 @@ pub enum Stop {
 }
 
 // How many bytes of the tape are played, how many of the output written, and why no more are.
-#[derive(Drop)]
+#[derive(Clone, Copy)]
 pub struct Progress {
     pub next: usize,
     pub written: usize,
@@ -156,7 +156,7 @@ fn kind_of(command: Command) -> u8
 }
 
 // What became of a command: where the next one begins and the place behind its line, or why it was not played.
-#[derive(Drop)]
+#[derive(Clone, Copy)]
 enum Step {
     Line(usize, usize),
     Stopped(Stop),

@@ -13,7 +13,7 @@ use crate::operand::put_operand;
 use pe_wire::error::PeError;
 use seven_bit::copy_in;
 
-#[derive(Drop)]
+#[derive(Clone, Copy)]
 pub enum CommandWritten {
     // So many bytes.
     Bytes(usize),

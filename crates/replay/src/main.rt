@@ -3,6 +3,8 @@
 // then each byte of the lent output, behind a colon. Document 01's examples come first, those of the table among them. A function's
 // byte is its place, from 1, in oracle/src/op.rs, which says how its input reads; 64 and up are the calls on a table (table.rt).
 // `make vectors` writes the list.
+#![tactic(auto)]
+
 mod table;
 
 ghost use Rattle.std.specs.Prelude.{◌<◌, ◌≤◌, length};

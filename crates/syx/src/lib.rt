@@ -1,4 +1,6 @@
 // Reads .syx files: where the bodies of their messages lie.
+#![tactic(auto)]
+
 mod scan;
 
 ghost use Rattle.std.specs.Prelude.{◌≡◌, ◌≤◌, ◌<◌, length, drop};
@@ -8,7 +10,7 @@ ghost use Rattle.syx.specs.Walk.{stored, walked, walked_on};
 
 use crate::scan::{find_start, find_status, is_end};
 
-#[derive(Drop)]
+#[derive(Clone, Copy)]
 pub enum SyxError {
     // A lent column has fewer places than the file has messages.
     TooManyMessages,
@@ -25,7 +27,7 @@ impl SyxError {
     }
 }
 
-#[derive(Drop)]
+#[derive(Clone, Copy)]
 pub enum Listed {
     // So many messages are listed, and so many were torn.
     Counted(u64, u64),
@@ -33,7 +35,7 @@ pub enum Listed {
 }
 
 // What is counted up to a place of the file.
-#[derive(Drop)]
+#[derive(Clone, Copy)]
 struct Tally {
     from: usize,
     messages: usize,

@@ -1,5 +1,7 @@
 // Plays a tape from standard input on a table of two peers, and writes a line for each command to standard output (document 02, K4). The tape
 // is read in blocks; each block's lines are written before the next one is read.
+#![tactic(auto)]
+
 ghost use Rattle.std.specs.Prelude.{◌≤◌, ◌&&◌, ◌≡◌, eqb, length};
 ghost use Rattle.pe_reassembler.specs.Feed.{memory};
 ghost use Rattle.pe_tape.specs.Told.{stop_told};
@@ -12,14 +14,14 @@ use pe_tape::line::last_line;
 use pe_tape::play::{SHAPE, Stop, play};
 
 // What a read brought: so many bytes, none where the input ends or the block is full; or that it failed.
-#[derive(Drop)]
+#[derive(Clone, Copy)]
 enum Came {
     Bytes(usize),
     Failed,
 }
 
 // What playing a block leaves: so many bytes at its front that are still to be played; that the play is over; or that its lines can't be written.
-#[derive(Drop)]
+#[derive(Clone, Copy)]
 enum Turn {
     Left(usize),
     Over,

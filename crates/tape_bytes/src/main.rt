@@ -1,6 +1,8 @@
 // Writes commands as a tape has them, reads each back, and writes what was read again: two lines of bytes for each, which are the same. The
 // request's own two come first (document 02, K4), then each command with values at the ends and values that show the order of their bytes, and what is
 // not written; at the end the two last lines that a tape can have.
+#![tactic(auto)]
+
 use libc::STDOUT_FILENO;
 use pe_tape::command::{Command, FedChunk};
 use pe_tape::error::TapeError;
