@@ -1,0 +1,4 @@
+use Rattle.hub.proofs.answer.pe_refused.Goals as goal
+
+pub returns : goal.returns
+returns c = cc

@@ -1,0 +1,17 @@
+use Prim.Native.Nat.{◌-◌, ◌≤◌}
+use mathlib.Core.List.{map}
+use mathlib.Core.Path.{◌≡◌}
+use lib.ListN.{length}
+use Rattle.seven_bit.specs.Parts.{put, joined}
+use Rattle.pe_chunker.specs.Split.{first_chunks}
+use Rattle.pe_chunker.proofs.split.put_all.Given as goal
+
+abbrev pub invariant-loop-k : goal.invariant-loop-k
+invariant-loop-k l =
+    (l.k ≤ l.num_chunks)
+    × (l.at ≡ length (joined (first_chunks l.request_id l.header l.body l.max_sysex l.k)))
+    × (l.out ≡ put l.initial.out 0 (joined (first_chunks l.request_id l.header l.body l.max_sysex l.k)))
+    × (l.lengths ≡ put l.initial.lengths 0 (map length (first_chunks l.request_id l.header l.body l.max_sysex l.k)))
+
+abbrev pub decreases-loop-k : goal.decreases-loop-k
+decreases-loop-k l = l.num_chunks - l.k

@@ -1,0 +1,70 @@
+use mathlib.Core.Path.{◌≡◌, sym, ap, ◌∙◌}
+use Prim.Native.Nat.{◌+◌, ◌<◌}
+use native.Mathlib.Omega.{arith}
+use borrow.Author.Tests.{le-leb, lt-leb}
+use lib.ListN.{length}
+use Rattle.seven_bit.specs.Parts.{put_fit}
+use Rattle.seven_bit.proofs.PartLaws.{fit_yes, fit_no, length_put}
+use Rattle.pe_frame.specs.Chunk.{chunk_from}
+use Rattle.pe_frame.specs.Write.{chunk_bytes, chunk_len, put_chunk}
+use Rattle.pe_frame.proofs.ChunkLaws.{put_small, chunk_length}
+use Rattle.pe_frame.proofs.frame.put_chunk.Goals as goal
+use Rattle.pe_frame.proofs.frame.put_chunk.Goals.{Else-chunk_num-gt-U14_MAX, Start}
+
+size : (c : Start) → length (chunk_bytes ((chunk_from c.args.request_id c.args.header.now c.args.num_chunks c.args.chunk_num c.args.property.now))) ≡ 9 + length c.args.header.now + length c.args.property.now
+unfolding chunk_len
+size c = chunk_length ((chunk_from c.args.request_id c.args.header.now c.args.num_chunks c.args.chunk_num c.args.property.now))
+
+-- the numbers have 14 bits: what is left is whether it fits
+left : (c : Else-chunk_num-gt-U14_MAX)
+    → put_chunk ((chunk_from c.args.request_id c.args.header.now c.args.num_chunks c.args.chunk_num c.args.property.now)) c.args.out.now c.args.at
+    ≡ put_fit c.args.out.now c.args.at (chunk_bytes ((chunk_from c.args.request_id c.args.header.now c.args.num_chunks c.args.chunk_num c.args.property.now)))
+left c = put_small ((chunk_from c.args.request_id c.args.header.now c.args.num_chunks c.args.chunk_num c.args.property.now)) _ _ c.if-header.false c.if-property.false c.if-num_chunks-gt-U14_MAX.false c.if-chunk_num-gt-U14_MAX.false
+
+short : (c : Else-chunk_num-gt-U14_MAX) → let a = c.args in length a.out.now < a.at + (9 + length a.header.now + length a.property.now)
+    → put_chunk ((chunk_from c.args.request_id c.args.header.now c.args.num_chunks c.args.chunk_num c.args.property.now)) a.out.now a.at ≡ a.out.now
+short c h =
+    (put_small ((chunk_from c.args.request_id c.args.header.now c.args.num_chunks c.args.chunk_num c.args.property.now)) _ _ c.if-header.false c.if-property.false c.if-num_chunks-gt-U14_MAX.false c.if-chunk_num-gt-U14_MAX.false) ∙ fit_no c.args.out.now c.args.at (chunk_bytes ((chunk_from c.args.request_id c.args.header.now c.args.num_chunks c.args.chunk_num c.args.property.now))) (omega (arith, size c.before.before.before.before.before.before.before, h))
+
+pub returns-then-header : goal.returns-then-header
+unfolding put_chunk
+returns-then-header c = rw (lt-leb _ _ c.if-header.true)
+
+pub returns-then-property : goal.returns-then-property
+unfolding put_chunk
+returns-then-property c = rw (le-leb _ _ c.if-header.false, lt-leb _ _ c.if-property.true)
+
+pub returns-then-num_chunks-gt-U14_MAX : goal.returns-then-num_chunks-gt-U14_MAX
+unfolding put_chunk
+returns-then-num_chunks-gt-U14_MAX c = rw (le-leb _ _ c.if-header.false, le-leb _ _ c.if-property.false, lt-leb _ _ c.if-num_chunks-gt-U14_MAX.true)
+
+pub returns-then-chunk_num-gt-U14_MAX : goal.returns-then-chunk_num-gt-U14_MAX
+unfolding put_chunk
+returns-then-chunk_num-gt-U14_MAX c =
+    rw (le-leb _ _ c.if-header.false, le-leb _ _ c.if-property.false, le-leb _ _ c.if-num_chunks-gt-U14_MAX.false, lt-leb _ _ c.if-chunk_num-gt-U14_MAX.true)
+
+pub returns-then-out-at : goal.returns-then-out-at
+returns-then-out-at c = sym (short (goal.at.returns-then-out-at c).Else-chunk_num-gt-U14_MAX (omega (arith, c.if-out-at.true)))
+
+pub returns-then-out-at-2 : goal.returns-then-out-at-2
+returns-then-out-at-2 c = sym (short (goal.at.returns-then-out-at-2 c).Else-chunk_num-gt-U14_MAX (omega (arith, c.if-out-at-2.true, c.if-out-at.false)))
+
+pub fill-requires : goal.fill-requires
+fill-requires c = (
+  c.if-header.false,
+  c.if-property.false,
+  c.if-num_chunks-gt-U14_MAX.false,
+  c.if-chunk_num-gt-U14_MAX.false,
+  omega (arith, c.if-out-at-2.false, c.if-out-at.false),
+)
+
+pub shape_of-out : goal.shape_of-out
+shape_of-out c = ap length c.fill.ensures ∙ length_put c.args.out.now _ _
+
+pub returns : goal.returns
+returns c =
+    let l = size (goal.at.returns c).Start in
+    c.fill.ensures
+    ∙ sym (left (goal.at.returns c).Else-chunk_num-gt-U14_MAX
+    ∙ fit_yes c.args.out.now c.args.at (chunk_bytes ((chunk_from c.args.request_id c.args.header.now c.args.num_chunks c.args.chunk_num c.args.property.now)))
+    (omega (arith, l, c.if-out-at-2.false, c.if-out-at.false)))

@@ -1,0 +1,27 @@
+use mathlib.Core.Bool.{true}
+use mathlib.Core.Path.{sym, ap, ◌∙◌}
+use Prim.Native.Nat.{◌-◌, ◌≤◌}
+use native.Mathlib.Omega.{arith}
+use borrow.Author.Rules.{rules}
+use lib.ListN.{length}
+use lib.Seq.{take_all}
+use Rattle.seven_bit.specs.SevenBit.{is_seven_bit}
+use Rattle.pe_frame.proofs.LowLaws.{front_none, front_next, high_at}
+use Rattle.pe_frame.proofs.low.sixteen_low.Goals as goal
+
+pub loop-i-init : goal.loop-i-init
+loop-i-init c = (omega arith, front_none c.args.s.now)
+
+pub returns-then-s-i-gt127 : goal.returns-then-s-i-gt127
+returns-then-s-i-gt127 c = sym (high_at _ _ c.if-s-i-gt127.true)
+
+pub loop-i-preserved : goal.loop-i-preserved
+loop-i-preserved c =
+    let l = c.loop-i in
+    (search rules, front_next c.args.s.now l.i (search rules) l.invariant.1 c.if-s-i-gt127.false)
+
+pub returns : goal.returns
+returns c =
+    let l = c.loop-i in
+    let e : length c.args.s.now ≤ l.i = omega (arith, c.requires, c.loop-i-test.false) in
+    sym (ap is_seven_bit (sym (take_all l.i c.args.s.now e)) ∙ l.invariant.1)

@@ -1,0 +1,10 @@
+use Prim.Native.Nat.{◌-◌}
+use Rattle.pe_reassembler.proofs.TableLaws.{Searched}
+use Rattle.pe_reassembler.specs.Table.{bound_to}
+use Rattle.pe_reassembler.proofs.table.record_of.Given as goal
+
+abbrev pub invariant-loop-p : goal.invariant-loop-p
+invariant-loop-p l = Searched (bound_to l.numbers l.peer) l.shape.max_peers l.p
+
+abbrev pub decreases-loop-p : goal.decreases-loop-p
+decreases-loop-p l = l.shape.max_peers - l.p

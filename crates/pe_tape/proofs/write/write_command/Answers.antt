@@ -1,0 +1,36 @@
+use mathlib.Core.List.{[]}
+use mathlib.Core.Path.{sym, ap, ◌∙◌}
+use lib.ListN.{length}
+use Rattle.seven_bit.specs.Reply.{Outcome, writing}
+use Rattle.pe_tape.specs.declared.command.Command.{Command}
+use Rattle.pe_tape.specs.Told.{write_call}
+use Rattle.pe_tape.proofs.WritingLaws.{asked, cancel_call, drop_call, poll_call}
+use Rattle.pe_tape.proofs.write.write_command.Goals as goal
+use Rattle.pe_tape.proofs.write.write_command.Goals.{Start}
+
+-- what is to be left for a command
+abbrev answer : Start → Command → Outcome
+answer c k = writing (write_call k c.args.source.now (length c.args.out.now)) c.args.out.now
+
+pub returns-in-Feed : goal.returns-in-Feed
+returns-in-Feed c =
+    c.write_feed.ensures ∙ ap (answer (goal.at.returns-in-Feed c).Start) (sym c.in-Feed.is)
+
+pub returns-in-Cancel : goal.returns-in-Cancel
+returns-in-Cancel c =
+    let p = c.command-in-Cancel-1.given.0 in
+    c.write_cancel.ensures
+    ∙ asked c.args.out.now (cancel_call p.0 p.1.0 [] _ ∙ sym (cancel_call p.0 p.1.0 c.args.source.now _))
+    ∙ ap (answer (goal.at.returns-in-Cancel c).Start) (sym c.in-Cancel.is)
+
+pub returns-in-Drop : goal.returns-in-Drop
+returns-in-Drop c =
+    c.write_one.ensures
+    ∙ asked c.args.out.now (sym (drop_call c.in-Drop.peer c.args.source.now _))
+    ∙ ap (answer (goal.at.returns-in-Drop c).Start) (sym c.in-Drop.is)
+
+pub returns-in-Poll : goal.returns-in-Poll
+returns-in-Poll c =
+    c.write_one-in-Poll.ensures
+    ∙ asked c.args.out.now (sym (poll_call c.in-Poll.now_ms c.args.source.now _))
+    ∙ ap (answer (goal.at.returns-in-Poll c).Start) (sym c.in-Poll.is)
