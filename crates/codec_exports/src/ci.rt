@@ -19,93 +19,80 @@ use midici_core::muid::Muid;
 use midici_core::pe_caps::PeCapabilities;
 use midici_core::pe_msg::PeMessage;
 
-#[unsafe(no_mangle)]
-pub extern "C" fn codec_muid_from_u32(value: u32) -> Answer
+pub fn codec_muid_from_u32(value: u32) -> Answer
     ensures { result ≡ answer_of (muid_from value) }
 {
     muid_read(Muid::from_u32(value))
 }
 
-#[unsafe(no_mangle)]
-pub extern "C" fn codec_muid_ordinary(value: u32) -> Answer
+pub fn codec_muid_ordinary(value: u32) -> Answer
     ensures { result ≡ answer_of (ordinary_muid value) }
 {
     muid_read(Muid::ordinary(value))
 }
 
-#[unsafe(no_mangle)]
-pub extern "C" fn codec_muid_is_broadcast(value: u32) -> bool
+pub fn codec_muid_is_broadcast(value: u32) -> bool
     ensures { result ≡ is_broadcast value }
 {
     Muid(value).is_broadcast()
 }
 
-#[unsafe(no_mangle)]
-pub extern "C" fn codec_muid_is_reserved(value: u32) -> bool
+pub fn codec_muid_is_reserved(value: u32) -> bool
     ensures { result ≡ is_reserved value }
 {
     Muid(value).is_reserved()
 }
 
-#[unsafe(no_mangle)]
-pub extern "C" fn codec_muid_encode_7bit_le(value: u32, out: &mut [u8; 4])
+pub fn codec_muid_encode_7bit_le(value: u32, out: &mut [u8; 4])
     ensures { out.new ≡ muid_bytes value }
 {
     *out = Muid(value).encode_7bit_le();
 }
 
-#[unsafe(no_mangle)]
-pub extern "C" fn codec_muid_decode_7bit_le(bytes: &[u8; 4]) -> Answer
+pub fn codec_muid_decode_7bit_le(bytes: &[u8; 4]) -> Answer
     ensures { result ≡ answer_of (read_muid bytes.now) }
 {
     muid_read(Muid::decode_7bit_le(bytes))
 }
 
-#[unsafe(no_mangle)]
-pub extern "C" fn codec_muid_generate(words: &[u32]) -> GeneratedAnswer
+pub fn codec_muid_generate(words: &[u32]) -> GeneratedAnswer
     ensures { result ≡ generated_answer_of (first_ordinary words.now) }
 {
     generated(Muid::generate(words))
 }
 
-#[unsafe(no_mangle)]
-pub extern "C" fn codec_header_decode(body: &[u8]) -> HeaderAnswer
+pub fn codec_header_decode(body: &[u8]) -> HeaderAnswer
     ensures { result ≡ header_answer_of (read_header body.now) }
 {
     header_read(CiHeader::decode(body))
 }
 
-#[unsafe(no_mangle)]
-pub extern "C" fn codec_header_encode(header: HeaderFields, out: &mut [u8]) -> Answer
+pub fn codec_header_encode(header: HeaderFields, out: &mut [u8]) -> Answer
     ensures { written result out.new ≡ written_of (writing (write_header (header_in header) (length out.old)) out.old) }
 {
     let header = header_in(header);
     ci_encoded(header.encode(out))
 }
 
-#[unsafe(no_mangle)]
-pub extern "C" fn codec_is_pe_chunked_sub_id(sub_id2: u8) -> bool
+pub fn codec_is_pe_chunked_sub_id(sub_id2: u8) -> bool
     ensures { result ≡ carries_chunk sub_id2 }
 {
     midici_core::spec::is_pe_chunked_sub_id(sub_id2)
 }
 
-#[unsafe(no_mangle)]
-pub extern "C" fn codec_kind_of(sub_id2: u8) -> KindAnswer
+pub fn codec_kind_of(sub_id2: u8) -> KindAnswer
     ensures { result ≡ kind_answer_of (kind_of sub_id2) }
 {
     kind_found(midici_core::spec::kind_of(sub_id2))
 }
 
-#[unsafe(no_mangle)]
-pub extern "C" fn codec_caps_decode(body: &[u8]) -> CapsAnswer
+pub fn codec_caps_decode(body: &[u8]) -> CapsAnswer
     ensures { result ≡ caps_answer_of (read_caps body.now) }
 {
     caps_read(PeCapabilities::decode(body))
 }
 
-#[unsafe(no_mangle)]
-pub extern "C" fn codec_caps_encode(
+pub fn codec_caps_encode(
     header: HeaderFields,
     simultaneous_requests: u8,
     pe_major: u8,
@@ -124,19 +111,13 @@ pub extern "C" fn codec_caps_encode(
     ci_encoded(caps.encode(out))
 }
 
-#[unsafe(no_mangle)]
-pub extern "C" fn codec_message_decode(body: &[u8]) -> MessageAnswer
+pub fn codec_message_decode(body: &[u8]) -> MessageAnswer
     ensures { result ≡ message_answer_of (read_message body.now) }
 {
     message_read(PeMessage::decode(body))
 }
 
-#[unsafe(no_mangle)]
-pub extern "C" fn codec_message_encode(
-    header: HeaderFields,
-    payload: &[u8],
-    out: &mut [u8],
-) -> Answer
+pub fn codec_message_encode(header: HeaderFields, payload: &[u8], out: &mut [u8]) -> Answer
     ensures { written result out.new
         ≡ written_of (writing (write_message (header_in header) payload.now (length out.old)) out.old) }
 {

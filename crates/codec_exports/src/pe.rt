@@ -75,30 +75,26 @@ fn capacity(a: Capacity) -> Answer
     }
 }
 
-#[unsafe(no_mangle)]
-pub extern "C" fn codec_read_u14_le7(bytes: &[u8]) -> Answer
+pub fn codec_read_u14_le7(bytes: &[u8]) -> Answer
     ensures { result ≡ answer_of (read_u14 bytes.now) }
 {
     u14_read(pe_wire::wire::read_u14_le7(bytes))
 }
 
-#[unsafe(no_mangle)]
-pub extern "C" fn codec_write_u14_le7(v: u16, out: &mut [u8]) -> Answer
+pub fn codec_write_u14_le7(v: u16, out: &mut [u8]) -> Answer
     ensures { written result out.new ≡ written_of (writing (write_u14 v (length out.old)) out.old) }
 {
     pe_encoded(pe_wire::wire::write_u14_le7(v, out))
 }
 
-#[unsafe(no_mangle)]
-pub extern "C" fn codec_mcoded7_decode(input: &[u8], out: &mut [u8]) -> Answer
+pub fn codec_mcoded7_decode(input: &[u8], out: &mut [u8]) -> Answer
     ensures { written result out.new
         ≡ written_of (writing (read_mcoded7 input.now (length out.old)) out.old) }
 {
     pe_encoded(pe_mcoded7::decode(input, out))
 }
 
-#[unsafe(no_mangle)]
-pub extern "C" fn codec_mcoded7_encode(input: &[u8], out: &mut [u8]) -> Answer
+pub fn codec_mcoded7_encode(input: &[u8], out: &mut [u8]) -> Answer
     ensures { written result out.new
         ≡ written_of (writing (write_mcoded7 input.now (length out.old)) out.old) }
 {
@@ -106,30 +102,26 @@ pub extern "C" fn codec_mcoded7_encode(input: &[u8], out: &mut [u8]) -> Answer
 }
 
 // The counter as it starts.
-#[unsafe(no_mangle)]
-pub extern "C" fn codec_first_request_id() -> u8
+pub fn codec_first_request_id() -> u8
     ensures { result ≡ 1 }
 {
     let counter = RequestCounter::new();
     counter.next
 }
 
-#[unsafe(no_mangle)]
-pub extern "C" fn codec_negotiated_requests(ours: u8, theirs: u8) -> u8
+pub fn codec_negotiated_requests(ours: u8, theirs: u8) -> u8
     ensures { result ≡ negotiated ours theirs }
 {
     pe_controller::negotiated_requests(ours, theirs)
 }
 
-#[unsafe(no_mangle)]
-pub extern "C" fn codec_decode_fields(bytes: &[u8]) -> ChunkAnswer
+pub fn codec_decode_fields(bytes: &[u8]) -> ChunkAnswer
     ensures { result ≡ chunk_answer_of (read_fields bytes.now) }
 {
     chunk_read(pe_frame::frame::decode_fields(bytes))
 }
 
-#[unsafe(no_mangle)]
-pub extern "C" fn codec_encode_chunk(
+pub fn codec_encode_chunk(
     request_id: u8,
     header: &[u8],
     num_chunks: u16,
@@ -144,37 +136,32 @@ pub extern "C" fn codec_encode_chunk(
     pe_encoded(pe_frame::frame::encode(request_id, header, num_chunks, chunk_num, property, out))
 }
 
-#[unsafe(no_mangle)]
-pub extern "C" fn codec_rewrite(bytes: &[u8], out: &mut [u8]) -> Answer
+pub fn codec_rewrite(bytes: &[u8], out: &mut [u8]) -> Answer
     ensures { written result out.new
         ≡ written_of (writing (and_next (read_chunk bytes.now) (λ c. write_chunk c (length out.old))) out.old) }
 {
     pe_encoded(pe_frame::chunk_ref::rewrite(bytes, out))
 }
 
-#[unsafe(no_mangle)]
-pub extern "C" fn codec_clamp_max_sysex(negotiated: u32) -> u32
+pub fn codec_clamp_max_sysex(negotiated: u32) -> u32
     ensures { result ≡ clamped negotiated }
 {
     pe_chunker::clamp_max_sysex(negotiated)
 }
 
-#[unsafe(no_mangle)]
-pub extern "C" fn codec_pe_payload_budget(max_sysex: u32) -> u64
+pub fn codec_pe_payload_budget(max_sysex: u32) -> u64
     ensures { result ≡ budget max_sysex }
 {
     pe_chunker::pe_payload_budget(max_sysex) as u64
 }
 
-#[unsafe(no_mangle)]
-pub extern "C" fn codec_first_chunk_property_capacity(max_sysex: u32, header_len: usize) -> Answer
+pub fn codec_first_chunk_property_capacity(max_sysex: u32, header_len: usize) -> Answer
     ensures { result ≡ answer_of (ask_first max_sysex header_len) }
 {
     capacity(pe_chunker::first_chunk_property_capacity(max_sysex, header_len))
 }
 
-#[unsafe(no_mangle)]
-pub extern "C" fn codec_later_chunk_property_capacity(max_sysex: u32) -> u64
+pub fn codec_later_chunk_property_capacity(max_sysex: u32) -> u64
     ensures { result ≡ later_capacity max_sysex }
 {
     pe_chunker::later_chunk_property_capacity(max_sysex) as u64

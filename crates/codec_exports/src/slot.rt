@@ -29,8 +29,7 @@ fn place_found(a: Found) -> PlaceAnswer
     }
 }
 
-#[unsafe(no_mangle)]
-pub extern "C" fn codec_position(index: &[u64], chunk_num: u16) -> PlaceAnswer
+pub fn codec_position(index: &[u64], chunk_num: u16) -> PlaceAnswer
     ensures { result ≡ place_answer_of (place_of chunk_num (take 2048 index.now)) }
 {
     place_found(position_of(index, chunk_num))

@@ -13,13 +13,7 @@ use midici_core::muid::Muid;
 use pe_chunker::split::Chunked;
 
 // How many chunks the header and the body are cut into.
-#[unsafe(no_mangle)]
-pub extern "C" fn midici_pe_chunk_count(
-    request_id: u8,
-    header: &[u8],
-    body: &[u8],
-    max_sysex: u32,
-) -> Answer
+pub fn midici_pe_chunk_count(request_id: u8, header: &[u8], body: &[u8], max_sysex: u32) -> Answer
     ensures { result ≡ answer_of (cut_count request_id header.now body.now max_sysex) }
 {
     chunks_counted(pe_chunker::chunk_count(request_id, header, body, max_sysex))
@@ -52,8 +46,7 @@ pub fn all_cut(a: Chunked) -> CutAnswer
 }
 
 // Writes all of them one after the other into out, and their lengths into a column.
-#[unsafe(no_mangle)]
-pub extern "C" fn midici_pe_split(
+pub fn midici_pe_split(
     request_id: u8,
     header: &[u8],
     body: &[u8],
@@ -69,8 +62,7 @@ pub extern "C" fn midici_pe_split(
 }
 
 // Writes chunk number chunk_num of them into out.
-#[unsafe(no_mangle)]
-pub extern "C" fn midici_pe_split_chunk(
+pub fn midici_pe_split_chunk(
     request_id: u8,
     header: &[u8],
     body: &[u8],
@@ -86,8 +78,7 @@ pub extern "C" fn midici_pe_split_chunk(
 }
 
 // Writes a CI header (device 7F, version 2) and a chunk behind it into out.
-#[unsafe(no_mangle)]
-pub extern "C" fn midici_pe_encode_message(
+pub fn midici_pe_encode_message(
     sub_id2: u8,
     source: u32,
     dest: u32,

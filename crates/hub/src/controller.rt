@@ -13,8 +13,7 @@ pub struct RequestId {
 }
 
 // Hands out the counter's number and steps the counter.
-#[unsafe(no_mangle)]
-pub extern "C" fn midici_pe_alloc_out_request_id(counter: u8) -> RequestId
+pub fn midici_pe_alloc_out_request_id(counter: u8) -> RequestId
     ensures { result ≡ record { request_id = counter; counter = stepped counter } }
 {
     let counter = RequestCounter { next: counter };

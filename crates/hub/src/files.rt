@@ -33,12 +33,7 @@ pub fn syx_listed(a: Listed) -> SyxAnswer
 }
 
 // Lists place and length of each message's body, F0 and F7 not counted.
-#[unsafe(no_mangle)]
-pub extern "C" fn midici_pe_syx_list(
-    file: &[u8],
-    places: &mut [u64],
-    lengths: &mut [u64],
-) -> SyxAnswer
+pub fn midici_pe_syx_list(file: &[u8], places: &mut [u64], lengths: &mut [u64]) -> SyxAnswer
     ensures { left result (places.new, lengths.new)
         ≡ syx_listed_of (list_call file.now places.old lengths.old) }
 {

@@ -54,8 +54,7 @@ pub fn found_answer(a: Found) -> FoundAnswer
 }
 
 // Looks a name up in a header.
-#[unsafe(no_mangle)]
-pub extern "C" fn midici_pe_header_find(header: &[u8], name: &[u8]) -> FoundAnswer
+pub fn midici_pe_header_find(header: &[u8], name: &[u8]) -> FoundAnswer
     ensures { result ≡ found_answer_of (find_value header.now name.now) }
 {
     found_answer(pe_header::find(header, name))

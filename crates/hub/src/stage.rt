@@ -81,33 +81,21 @@ pub fn stage_turned(a: Turned) -> TurnAnswer
 }
 
 // Makes an empty stage.
-#[unsafe(no_mangle)]
-pub extern "C" fn midici_pe_stage_new(stage: &mut [u64]) -> Answer
+pub fn midici_pe_stage_new(stage: &mut [u64]) -> Answer
     ensures { left result stage.new ≡ kept_of (new_call stage.old) }
 {
     stage_made(pe_stage::new(stage))
 }
 
 // A list of the buffer joins at a place.
-#[unsafe(no_mangle)]
-pub extern "C" fn midici_pe_stage_join(
-    stage: &mut [u64],
-    buffer: &[u8],
-    place: u64,
-    list: Outgoing,
-) -> Answer
+pub fn midici_pe_stage_join(stage: &mut [u64], buffer: &[u8], place: u64, list: Outgoing) -> Answer
     ensures { left result stage.new ≡ kept_of (join_call stage.old buffer.now place list) }
 {
     stage_joined(pe_stage::join(stage, buffer, place, list))
 }
 
 // Writes the next chunk of the next list that waits into out.
-#[unsafe(no_mangle)]
-pub extern "C" fn midici_pe_stage_turn(
-    stage: &mut [u64],
-    buffer: &[u8],
-    out: &mut [u8],
-) -> TurnAnswer
+pub fn midici_pe_stage_turn(stage: &mut [u64], buffer: &[u8], out: &mut [u8]) -> TurnAnswer
     ensures { left result (stage.new, out.new)
         ≡ turn_of (turn_call stage.old buffer.now out.old) }
 {

@@ -12,8 +12,7 @@ use pe_reassembler::shape::Shape;
 use pe_reassembler::{calls, feed, open, poll};
 
 // Makes a table in the lent memory; the rooms keep their bytes.
-#[unsafe(no_mangle)]
-pub extern "C" fn midici_pe_new(
+pub fn midici_pe_new(
     shape: Shape,
     numbers: &mut [u64],
     index: &mut [u64],
@@ -27,8 +26,7 @@ pub extern "C" fn midici_pe_new(
 }
 
 // Feeds a chunk of a peer; a whole list goes into the two outputs.
-#[unsafe(no_mangle)]
-pub extern "C" fn midici_pe_feed(
+pub fn midici_pe_feed(
     shape: Shape,
     numbers: &mut [u64],
     index: &mut [u64],
@@ -51,29 +49,21 @@ pub extern "C" fn midici_pe_feed(
 }
 
 // Closes the slot of a peer that is open with a request id: 1 where there was one, else 0.
-#[unsafe(no_mangle)]
-pub extern "C" fn midici_pe_cancel(
-    shape: Shape,
-    numbers: &mut [u64],
-    peer: u32,
-    request_id: u8,
-) -> Answer
+pub fn midici_pe_cancel(shape: Shape, numbers: &mut [u64], peer: u32, request_id: u8) -> Answer
     ensures { left result numbers.new ≡ cancelled_of (cancel_call shape numbers.old peer request_id) }
 {
     cancelled(calls::cancel(shape, numbers, peer, request_id))
 }
 
 // Closes all slots of a peer and unbinds its record: how many there were.
-#[unsafe(no_mangle)]
-pub extern "C" fn midici_pe_drop_peer(shape: Shape, numbers: &mut [u64], peer: u32) -> Answer
+pub fn midici_pe_drop_peer(shape: Shape, numbers: &mut [u64], peer: u32) -> Answer
     ensures { left result numbers.new ≡ dropped_of (drop_call shape numbers.old peer) }
 {
     number_counted(calls::drop_peer(shape, numbers, peer))
 }
 
 // Closes each slot whose time is up, and lists its peer and request id: how many there are.
-#[unsafe(no_mangle)]
-pub extern "C" fn midici_pe_poll(
+pub fn midici_pe_poll(
     shape: Shape,
     numbers: &mut [u64],
     now_ms: u64,
@@ -87,8 +77,7 @@ pub extern "C" fn midici_pe_poll(
 }
 
 // Lists peer, request id and chunks held of each open slot, by tick, peer, request id and place: how many there are.
-#[unsafe(no_mangle)]
-pub extern "C" fn midici_pe_open_list(
+pub fn midici_pe_open_list(
     shape: Shape,
     numbers: &[u64],
     out_peers: &mut [u64],
@@ -102,16 +91,14 @@ pub extern "C" fn midici_pe_open_list(
 }
 
 // What the rooms take and what is open in them.
-#[unsafe(no_mangle)]
-pub extern "C" fn midici_pe_memory_stats(shape: Shape, numbers: &[u64]) -> StatsAnswer
+pub fn midici_pe_memory_stats(shape: Shape, numbers: &[u64]) -> StatsAnswer
     ensures { result ≡ stats_answer_of (stats_call shape numbers.now) }
 {
     stats(calls::memory_stats(shape, numbers))
 }
 
 // The bytes that the rooms of a table take.
-#[unsafe(no_mangle)]
-pub extern "C" fn midici_pe_reserved_bytes(shape: Shape) -> Answer
+pub fn midici_pe_reserved_bytes(shape: Shape) -> Answer
     ensures { result ≡ answer_of (reserved_call shape) }
 {
     number_counted(calls::reserved_bytes(shape))

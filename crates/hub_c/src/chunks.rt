@@ -1,0 +1,82 @@
+// A list cut into chunks, and a whole message written.
+ghost use Rattle.std.specs.Prelude.{◌≡◌, length};
+ghost use Rattle.seven_bit.specs.Reply.{writing};
+ghost use Rattle.pe_frame.specs.Write.{write_whole};
+ghost use Rattle.pe_chunker.specs.Cut.{cut_count, cut_chunk};
+ghost use Rattle.pe_chunker.specs.Split.{cut_list, splitting};
+ghost use Rattle.pe_frame.specs.Chunk.{chunk_from};
+ghost use Rattle.hub.specs.Answers.{answer_of, left, written, written_of};
+ghost use Rattle.hub.specs.Chunks.{all_cut_of};
+
+use hub::answer::Answer;
+use hub::chunks::CutAnswer;
+
+// How many chunks the header and the body are cut into.
+#[unsafe(no_mangle)]
+pub extern "C" fn midici_pe_chunk_count(
+    request_id: u8,
+    header: &[u8],
+    body: &[u8],
+    max_sysex: u32,
+) -> Answer
+    ensures { result ≡ answer_of (cut_count request_id header.now body.now max_sysex) }
+{
+    hub::chunks::midici_pe_chunk_count(request_id, header, body, max_sysex)
+}
+
+// Writes all of them one after the other into out, and their lengths into a column.
+#[unsafe(no_mangle)]
+pub extern "C" fn midici_pe_split(
+    request_id: u8,
+    header: &[u8],
+    body: &[u8],
+    max_sysex: u32,
+    out: &mut [u8],
+    lengths: &mut [u16],
+) -> CutAnswer
+    ensures { left result (out.new, lengths.new)
+        ≡ all_cut_of (splitting (cut_list request_id header.now body.now max_sysex (length out.old)
+        (length lengths.old)) out.old lengths.old) }
+{
+    hub::chunks::midici_pe_split(request_id, header, body, max_sysex, out, lengths)
+}
+
+// Writes chunk number chunk_num of them into out.
+#[unsafe(no_mangle)]
+pub extern "C" fn midici_pe_split_chunk(
+    request_id: u8,
+    header: &[u8],
+    body: &[u8],
+    max_sysex: u32,
+    chunk_num: u16,
+    out: &mut [u8],
+) -> Answer
+    ensures { written result out.new
+        ≡ written_of (writing (cut_chunk request_id header.now body.now max_sysex chunk_num
+        (length out.old)) out.old) }
+{
+    hub::chunks::midici_pe_split_chunk(request_id, header, body, max_sysex, chunk_num, out)
+}
+
+// Writes a CI header (device 7F, version 2) and a chunk behind it into out.
+#[unsafe(no_mangle)]
+pub extern "C" fn midici_pe_encode_message(
+    sub_id2: u8,
+    source: u32,
+    dest: u32,
+    request_id: u8,
+    header: &[u8],
+    num_chunks: u16,
+    chunk_num: u16,
+    property: &[u8],
+    out: &mut [u8],
+) -> Answer
+    ensures { written result out.new
+        ≡ written_of (writing (write_whole sub_id2 source dest
+        (chunk_from request_id header.now num_chunks chunk_num property.now) (length out.old))
+        out.old) }
+{
+    hub::chunks::midici_pe_encode_message(
+        sub_id2, source, dest, request_id, header, num_chunks, chunk_num, property, out,
+    )
+}
