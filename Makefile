@@ -9,12 +9,12 @@ endif
 export SEED CASES RUNS SECONDS PREFIX DESTDIR CC CXX CFLAGS LDFLAGS AR
 
 LIBRARY = target/lib/libmidici_pe.a
-OBJECTS = target/lib/hub.o target/lib/hub_message.o
+OBJECTS = target/lib/hub_c.o target/lib/hub_message.o
 TAPE = target/programs/tape
 
 # The files of a crate and of those that it uses, but for the kit's.
-sources_of = $(shell find $(wildcard $(patsubst %,crates/%,$(shell sed -n 's/^$1:/$1/p' crates.txt))) -type d -name must-fail -prune -o -print)
-LIBRARY_SOURCES := $(call sources_of,hub_message)
+sources_of = $(shell find $(wildcard $(patsubst %,crates/%,$1 $(shell sed -n 's/^$1\( staticlib\)\{0,1\}://p' crates.txt))) -type d \( -name must-fail -o -name out \) -prune -o -print)
+LIBRARY_SOURCES := $(call sources_of,hub_c) $(wildcard crates/hub_message/src/* crates/hub_message/proofs/*)
 TAPE_SOURCES := $(call sources_of,tape)
 
 STRICT = -Wall -Wextra -Wpedantic -Werror -Iinclude -Ic
@@ -74,8 +74,8 @@ uninstall:
 	@.ci/install --remove
 
 clean:
-	@.ci/alone rm -rf target
-	@echo "Removed: target/"
+	@.ci/alone rm -rf target crates/*/out
+	@echo "Removed: target/ and crates/*/out/"
 
 sizes:
 	@c/at-hand Cannot-run "the sizes"

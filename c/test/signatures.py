@@ -1,7 +1,7 @@
 #!/usr/bin/env python3
 """signatures.py: prints a C file that is an error wherever include/midici_pe.h and the Rattle source disagree.
 
-It reads the exports, their structs and the numbers of kinds from crates/hub and hub_message, the structs of a shape and
+It reads the exports from crates/hub_c and hub_message, their structs and the numbers of kinds from hub, the structs of a shape and
 of a list that is to leave, the refusals' numbers and the sizes from the crates below them.
 For each export it prints a pointer of the type that the source says, set to the function that the header declares; for
 each struct, refusal, kind and size an assertion. What a compiler does not see is compared here: the names of parameters,
@@ -51,15 +51,15 @@ def check(condition):
 
 
 def exports(text):
-    found = re.findall(r'#\[no_mangle\]\s*pub extern "C" fn (\w+)\(([^)]*)\) -> (\w+)', text)
-    if len(found) != text.count('#[no_mangle]'):
+    found = re.findall(r'#\[unsafe\(no_mangle\)\]\s*pub extern "C" fn (\w+)\(([^)]*)\) -> (\w+)', text)
+    if len(found) != text.count('#[unsafe(no_mangle)]'):
         wrong('an export is not of the form that is read here')
     return {name: (STRUCTS[result], list(c_parameters(parameters))) for name, parameters, result in found}
 
 
 def print_structs(text):
     """Fields follow one another, each at the next multiple of its size; a struct with one more lacks a value here."""
-    for name, body in re.findall(r'#\[repr\(C\)\]\s*pub struct (\w+) \{([^}]*)\}', text):
+    for name, body in re.findall(r'#\[repr\(C\)\]\s*(?:#\[derive\([^)]*\)\]\s*)?pub struct (\w+) \{([^}]*)\}', text):
         struct, at, widest = STRUCTS[name], 0, 1
         members = fields(re.sub(r'\bpub ', '', body))
         for field, kind in members:
@@ -128,7 +128,7 @@ for function, (result, parameters) in functions.items():
         wrong(f'{HEADER.name} lacks\n{result} {function}({listed});')
 for function in re.findall(r'\b(\w+)\([^()]*\);', header):
     if function not in functions:
-        wrong(f'{HEADER.name} declares {function}, which neither crates/hub nor hub_message exports')
+        wrong(f'{HEADER.name} declares {function}, which neither crates/hub_c nor hub_message exports')
 print_structs(hub + source('pe_reassembler/src/shape.rt') + source('pe_stage/src/place.rt'))
 refusals = print_numbers('pe_wire/src/error.rt', 'PeError', 'MIDICI_PE_')
 refusals += print_numbers('midici_core/src/error.rt', 'CiError', 'MIDICI_PE_CI_')

@@ -5,8 +5,15 @@ use std::path::{Path, PathBuf};
 use std::{env, fs};
 
 /// The folders and files below crates/ that have the exports, and the structs that these take and answer.
-const SOURCES: [&str; 5] =
-    ["hub/src", "hub_message/src", "codec_exports/src", "pe_reassembler/src/shape.rt", "pe_stage/src/place.rt"];
+const SOURCES: [&str; 7] = [
+    "hub/src",
+    "hub_c/src",
+    "hub_message/src",
+    "codec_exports/src",
+    "codec_exports_c/src",
+    "pe_reassembler/src/shape.rt",
+    "pe_stage/src/place.rt",
+];
 /// Their archives below target/lib: hub_message's exports are in the first.
 const ARCHIVES: [&str; 2] = ["midici_pe", "codec_exports"];
 
@@ -39,7 +46,7 @@ fn main() {
     }
 }
 
-/// A file, or the files of a folder, without their comments.
+/// A file, or the files of a folder, without their comments and derives.
 fn source(place: &Path) -> String {
     println!("cargo:rerun-if-changed={}", place.display());
     let mut files = vec![place.to_owned()];
@@ -48,7 +55,8 @@ fn source(place: &Path) -> String {
         files.sort();
     }
     let text: String = files.iter().map(|file| fs::read_to_string(file).unwrap() + "\n").collect();
-    text.lines().map(|line| line.split("//").next().unwrap().to_owned() + "\n").collect()
+    let kept = text.lines().filter(|line| !line.starts_with("#[derive("));
+    kept.map(|line| line.split("//").next().unwrap().to_owned() + "\n").collect()
 }
 
 /// What follows each of the marks. It must begin as is said.
@@ -76,7 +84,7 @@ fn functions(source: &str) -> Vec<Function<'_>> {
         let result = rest.trim_start().strip_prefix("-> ").map(|rest| rest.split_whitespace().next().unwrap());
         Function { name, parameters: fields(parameters), result }
     };
-    marked(source, "#[no_mangle]", "pub extern \"C\" fn ").map(read).collect()
+    marked(source, "#[unsafe(no_mangle)]", "pub extern \"C\" fn ").map(read).collect()
 }
 
 /// NAME: TYPE, NAME: TYPE, ..

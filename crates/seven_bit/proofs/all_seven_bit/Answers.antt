@@ -1,8 +1,6 @@
 use mathlib.Core.Path.{refl, ◌∙◌, sym}
-use Prim.Native.Nat.{◌-◌}
 use lib.ListN.{drop_of_length-le}
 use borrow.Author.Rules.{rules}
-use mathlib.Core.Bool.{false}
 use Rattle.seven_bit.proofs.SevenBitLaws.{gather_next, gather_end}
 use Rattle.seven_bit.proofs.all_seven_bit.Goals as goal
 
