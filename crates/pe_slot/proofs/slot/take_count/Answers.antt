@@ -3,7 +3,7 @@ use Rattle.std.proofs.Common.{eqb, sym, ◌∙◌, eq-eqb, ne_eqb}
 use borrow.Author.Tests.{not-true, not-false}
 use Rattle.pe_slot.specs.Steps.{take_count}
 use Rattle.pe_slot.proofs.slot.take_count.Goals as goal
-use Rattle.pe_slot.proofs.slot.take_count.Goals.{then-num_chunks-ne0, else-num_chunks-ne0}
+use Rattle.pe_slot.proofs.slot.take_count.Goals.{then-num_chunks-ne0+else-num_chunks-known, else-num_chunks-ne0}
 
 pub returns-then-num_chunks-eq0 : goal.returns-then-num_chunks-eq0
 unfolding take_count
@@ -32,4 +32,7 @@ unfolding take_count
 returns c =
     let a = c.args in
     rw (ne_eqb _ _ c.if-known-eq0.false)
-    (elim c.if-num_chunks-ne0.branch [ then-num_chunks-ne0 w ↦ ? | else-num_chunks-ne0 w ↦ ? ])
+    (elim c.if-num_chunks-ne0.branch [
+      then-num_chunks-ne0+else-num_chunks-known w ↦ rw (eq-eqb _ _ (sym w.if-num_chunks-known.false), or-true (eqb a.num_chunks 0))
+      | else-num_chunks-ne0 w ↦ rw (eq-eqb _ _ w.if-num_chunks-ne0.false)
+    ])
