@@ -33,6 +33,6 @@ returns c =
     let a = c.args in
     rw (ne_eqb _ _ c.if-known-eq0.false)
     (elim c.if-num_chunks-ne0.branch [
-      then-num_chunks-ne0+else-num_chunks-known w ↦ rw (eq-eqb _ _ (sym w.if-num_chunks-known.false), or-true (eqb a.num_chunks 0))
+      | then-num_chunks-ne0+else-num_chunks-known w ↦ rw (eq-eqb _ _ (sym w.if-num_chunks-known.false), or-true (eqb a.num_chunks 0))
       | else-num_chunks-ne0 w ↦ rw (eq-eqb _ _ w.if-num_chunks-ne0.false)
     ])
