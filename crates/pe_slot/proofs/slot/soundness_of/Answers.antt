@@ -7,12 +7,6 @@ pub returns-then-not-is_bounded : goal.returns-then-not-is_bounded
 returns-then-not-is_bounded c =
     damaged _ _ _ _ _ (unbounded _ _ _ ((slot_of c.args.words.now)) c.args.index.now c.is_bounded.ensures (ap not c.if-not-is_bounded.true))
 
-pub scan-pass-requires : goal.scan-pass-requires
-scan-pass-requires c =
-    let held = bounded_held _ _ _ ((slot_of c.args.words.now)) (sym c.is_bounded.ensures ∙ c.if-not-is_bounded.false) in
-    let records = c.requires.1 in
-    (held, omega arith)
-
 pub returns-then-not-ends_at : goal.returns-then-not-ends_at
 returns-then-not-ends_at c =
     damaged _ _ _ _ _ (unlaid _ _ _ ((slot_of c.args.words.now)) _ c.is_bounded.ensures c.scan-pass.ensures c.ends_at.ensures (ap not c.if-not-ends_at.true))
