@@ -1,5 +1,4 @@
-use Rattle.std.proofs.Common.{◌≡◌, ◌-◌, length, refl, ◌∙◌, arith, length-set, rules}
-use lib.Seq.{take-length}
+use Rattle.std.proofs.Common.{arith, length-set}
 use Rattle.pe_slot.proofs.MetaLaws.{unpacked_more}
 use Rattle.pe_slot.proofs.meta.unpack_all.Goals as goal
 

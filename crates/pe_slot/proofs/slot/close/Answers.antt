@@ -1,4 +1,3 @@
-use Rattle.std.proofs.Common.{arith, length-set}
 use Rattle.pe_slot.proofs.SlotWords.{close_zeroed, close_other}
 use Rattle.pe_slot.proofs.slot.close.Goals as goal
 

@@ -1,6 +1,5 @@
-use Rattle.std.proofs.Common.{sym, refl, ◌∙◌, arith, length-take-le}
+use Rattle.std.proofs.Common.{refl, ◌∙◌}
 use Rattle.pe_slot.specs.declared.records.Joined.{Joined}
-use Rattle.pe_slot.specs.Memory.{slot_of}
 use Rattle.pe_slot.proofs.FeedLaws.{finish_headless, finish_countless, finish_missing, finish_whole}
 use Rattle.pe_slot.proofs.OrderJoinLaws.{join_short}
 use Rattle.pe_slot.proofs.SlotWords.{close_nine}

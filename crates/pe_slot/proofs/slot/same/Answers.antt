@@ -1,4 +1,4 @@
-use Rattle.std.proofs.Common.{◌-◌, sym, refl, ◌∙◌, arith}
+use Rattle.std.proofs.Common.{sym, ◌∙◌, arith}
 use Rattle.pe_slot.proofs.SlotHeaders.{eq_lengths, eq_go, eq_stop, eq_end}
 use Rattle.pe_slot.proofs.slot.same.Goals as goal
 

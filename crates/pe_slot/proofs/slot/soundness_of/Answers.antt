@@ -1,6 +1,6 @@
-use Rattle.std.proofs.Common.{not, sym, ap, ◌∙◌, arith}
+use Rattle.std.proofs.Common.{not, ap}
 use Rattle.pe_slot.specs.Memory.{slot_of}
-use Rattle.pe_slot.proofs.FeedAsked.{bounded_held, unbounded, unlaid, sound, damaged, sound_held}
+use Rattle.pe_slot.proofs.FeedAsked.{unbounded, unlaid, sound, damaged, sound_held}
 use Rattle.pe_slot.proofs.slot.soundness_of.Goals as goal
 
 pub returns-then-not-is_bounded : goal.returns-then-not-is_bounded

@@ -1,4 +1,3 @@
-use Rattle.std.proofs.Common.{arith, length-set}
 use Rattle.pe_slot.proofs.SlotWords.{touch_free, touch_open}
 use Rattle.pe_slot.proofs.slot.touch.Goals as goal
 
