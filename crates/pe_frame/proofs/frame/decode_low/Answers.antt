@@ -2,7 +2,7 @@ use mathlib.Core.Bool.{true, ◌||◌, or-true}
 use mathlib.Core.Path.{◌≡◌, sym, ◌∙◌}
 use Prim.Native.Nat.{◌+◌}
 use native.Mathlib.Omega.{arith}
-use borrow.Author.Tests.{le-leb, lt-leb, eq-eqb, ne_eqb, not-true, not-false}
+use borrow.Author.Tests.{le-leb, lt-leb, eq-eqb, ne_eqb}
 use lib.Dec.{eqb}
 use lib.ListN.{length, take}
 use Rattle.seven_bit.specs.Parts.{part}
@@ -30,8 +30,8 @@ property c = seven_bit_part (9 + (c.u14_at-nh.result)) c.u14_at-nd.result ((c.ar
 first : (c : Joined-chunk_num-ne1) → (eqb c.u14_at-chunk_num.result 1 || eqb ((c.u14_at-nh.result)) 0) ≡ true
 first c =
     elim c.if-chunk_num-ne1.branch [
-      then-chunk_num-ne1+else-nh-ne0 w ↦ rw (eq-eqb _ _ w.if-nh-ne0.false) (or-true (eqb c.u14_at-chunk_num.result 1))
-    | else-chunk_num-ne1 w ↦ rw (eq-eqb _ _ w.if-chunk_num-ne1.false)
+      | then-chunk_num-ne1+else-nh-ne0 w ↦ rw (eq-eqb _ _ w.if-nh-ne0.false) (or-true (eqb c.u14_at-chunk_num.result 1))
+      | else-chunk_num-ne1 w ↦ rw (eq-eqb _ _ w.if-chunk_num-ne1.false)
     ]
 
 pub returns-then-data-property_at : goal.returns-then-data-property_at
@@ -61,11 +61,11 @@ returns-then-nh-ne0 c =
 pub returns-then-not-is_within_count : goal.returns-then-not-is_within_count
 unfolding read_end
 returns-then-not-is_within_count c =
-    let w = sym c.is_within_count.ensures ∙ not-true _ c.if-not-is_within_count.true-raw in
+    let w = sym c.is_within_count.ensures ∙ c.if-not-is_within_count.true in
     rw (behind (goal.at.returns-then-not-is_within_count c).After-u14_at-nd, le-leb _ _ c.if-data-property_at-2.false, le-leb _ _ c.if-property_at-nd.false, property (goal.at.returns-then-not-is_within_count c).After-u14_at-nd, first (goal.at.returns-then-not-is_within_count c).Joined-chunk_num-ne1, w)
 
 pub returns : goal.returns
 unfolding read_end
 returns c =
-    let w = sym c.is_within_count.ensures ∙ not-false _ c.if-not-is_within_count.false-raw in
+    let w = sym c.is_within_count.ensures ∙ c.if-not-is_within_count.false in
     rw (behind (goal.at.returns c).After-u14_at-nd, le-leb _ _ c.if-data-property_at-2.false, le-leb _ _ c.if-property_at-nd.false, property (goal.at.returns c).After-u14_at-nd, first (goal.at.returns c).Joined-chunk_num-ne1, w)
