@@ -1,14 +1,9 @@
-use mathlib.Core.Bool.{Bool, true, false}
-use mathlib.Core.List.{List}
-use mathlib.Core.Path.{◌≡◌, sym, ◌∙◌}
-use Prim.Native.Nat.{ℕ, ◌-◌, ◌≤◌, ◌<◌}
-use lib.ListN.{length, take, get_or}
-use lib.Seq.{slice}
+use mathlib.Core.Bool.{true, false}
+use mathlib.Core.Path.{sym, ◌∙◌}
+use Prim.Native.Nat.{◌-◌, ◌≤◌, ◌<◌}
+use lib.ListN.{length, get_or}
 use native.Mathlib.Omega.{arith}
 use borrow.Author.Rules.{rules}
-use Rattle.flat_json.specs.Tree.{Piece}
-use Rattle.pe_header.specs.Find.{units}
-use Rattle.pe_header.specs.Names.{NameAt, print_of, IsAmong}
 use Rattle.pe_header.proofs.EntryLaws.{seen_here, other_name, others_passed, seen_none}
 use Rattle.pe_header.proofs.names.seen.Invariants.{Whole}
 use Rattle.pe_header.proofs.names.seen.Goals as goal
