@@ -3,7 +3,7 @@ use Prim.Native.Nat.{◌+◌}
 use lib.ListN.{length}
 use native.Mathlib.Omega.{arith}
 use Rattle.seven_bit.specs.Reply.{granted}
-use Rattle.seven_bit.proofs.PartLaws.{put_front, length_put}
+use Rattle.seven_bit.proofs.PartLaws.{put_front}
 use Rattle.seven_bit.proofs.ReplyLaws.{wrote, same_grant}
 use Rattle.pe_frame.specs.Chunk.{chunk_from}
 use Rattle.pe_frame.specs.Write.{InRange, chunk_len, chunk_len_told, chunk_bytes}

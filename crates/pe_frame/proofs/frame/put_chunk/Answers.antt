@@ -1,11 +1,11 @@
-use mathlib.Core.Path.{◌≡◌, sym, ap, ◌∙◌}
+use mathlib.Core.Path.{◌≡◌, sym, ◌∙◌}
 use Prim.Native.Nat.{ℕ, ◌+◌, ◌<◌}
 use native.Mathlib.Omega.{arith}
 use borrow.Author.Tests.{le-leb, lt-leb}
 use lib.ListN.{length}
 use mathlib.Core.List.{List}
 use Rattle.seven_bit.specs.Parts.{put_fit}
-use Rattle.seven_bit.proofs.PartLaws.{fit_yes, fit_no, length_put}
+use Rattle.seven_bit.proofs.PartLaws.{fit_yes, fit_no}
 use Rattle.pe_frame.specs.Chunk.{chunk_from}
 use Rattle.pe_frame.specs.Write.{chunk_bytes, chunk_len, put_chunk}
 use Rattle.pe_frame.proofs.ChunkLaws.{put_small, chunk_length}
