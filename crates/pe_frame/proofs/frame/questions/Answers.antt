@@ -2,7 +2,7 @@ use Prim.Native.Nat.{◌+◌}
 use mathlib.Core.Path.{◌≡◌, sym, ◌∙◌}
 use lib.ListN.{length}
 use mathlib.Core.Bool.{true, false, ◌||◌, or-true}
-use borrow.Author.Tests.{le-leb, lt-leb, eq-eqb, ne_eqb, not-true, not-false}
+use borrow.Author.Tests.{le-leb, lt-leb, eq-eqb, ne_eqb}
 use lib.Dec.{eqb}
 use Rattle.seven_bit.specs.SevenBit.{is_seven_bit}
 use Rattle.seven_bit.specs.Reply.{granted}
@@ -12,9 +12,9 @@ use Rattle.pe_frame.proofs.ChunkLaws.{ask_bytes, past_numbers, ask_yes}
 use Rattle.pe_frame.proofs.frame.questions.Goals as goal
 use Rattle.pe_frame.proofs.frame.questions.Goals.{Else-chunk_num-gt-U14_MAX, Else-not-all_seven_bit, Else-not-all_seven_bit-2, Joined-chunk_num-ne1, then-chunk_num-ne1+else-header-ne0, else-chunk_num-ne1}
 
-numbers : (c : Else-chunk_num-gt-U14_MAX) → ask_chunk ((chunk_from c.args.request_id c.args.header.now c.args.num_chunks c.args.chunk_num c.args.property.now)) ((granted (9 + length c.args.header.now + length c.args.property.now))) ≡ ask_bytes ((chunk_from c.args.request_id c.args.header.now c.args.num_chunks c.args.chunk_num c.args.property.now)) ((granted (9 + length c.args.header.now + length c.args.property.now)))
+numbers : (c : Else-chunk_num-gt-U14_MAX) → ask_chunk (chunk_from c.args.request_id c.args.header.now c.args.num_chunks c.args.chunk_num c.args.property.now) (granted (9 + length c.args.header.now + length c.args.property.now)) ≡ ask_bytes (chunk_from c.args.request_id c.args.header.now c.args.num_chunks c.args.chunk_num c.args.property.now) (granted (9 + length c.args.header.now + length c.args.property.now))
 numbers c =
-    past_numbers ((chunk_from c.args.request_id c.args.header.now c.args.num_chunks c.args.chunk_num c.args.property.now)) _ c.if-request_id-gt-REQUEST_ID_MAX.false c.if-header.false c.if-property.false
+    past_numbers (chunk_from c.args.request_id c.args.header.now c.args.num_chunks c.args.chunk_num c.args.property.now) _ c.if-request_id-gt-REQUEST_ID_MAX.false c.if-header.false c.if-property.false
     c.if-num_chunks-gt-U14_MAX.false c.if-chunk_num-gt-U14_MAX.false
 
 -- the header's bytes, and the property's
@@ -28,8 +28,8 @@ property_bytes c = sym c.all_seven_bit-2.ensures ∙ c.if-not-all_seven_bit-2.fa
 first : (c : Joined-chunk_num-ne1) → (eqb c.args.chunk_num 1 || eqb (length c.args.header.now) 0) ≡ true
 first c =
     elim c.if-chunk_num-ne1.branch [
-      then-chunk_num-ne1+else-header-ne0 w ↦ rw (eq-eqb _ _ w.if-header-ne0.false) (or-true (eqb c.args.chunk_num 1))
-    | else-chunk_num-ne1 w ↦ rw (eq-eqb _ _ w.if-chunk_num-ne1.false)
+      | then-chunk_num-ne1+else-header-ne0 w ↦ rw (eq-eqb _ _ w.if-header-ne0.false) (or-true (eqb c.args.chunk_num 1))
+      | else-chunk_num-ne1 w ↦ rw (eq-eqb _ _ w.if-chunk_num-ne1.false)
     ]
 
 pub returns-then-request_id-gt-REQUEST_ID_MAX : goal.returns-then-request_id-gt-REQUEST_ID_MAX
