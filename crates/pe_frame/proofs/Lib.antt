@@ -4,4 +4,3 @@ pub mod ChunkLaws
 pub mod MessageLaws
 pub mod ChunkRefLaws
 pub mod RoundTrip
-pub mod Told

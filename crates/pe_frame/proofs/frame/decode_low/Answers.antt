@@ -1,5 +1,4 @@
 use mathlib.Core.Bool.{true, ◌||◌, or-true}
-use mathlib.Core.Logic.{⊎_elim}
 use mathlib.Core.Path.{◌≡◌, sym, ◌∙◌}
 use Prim.Native.Nat.{◌+◌}
 use native.Mathlib.Omega.{arith}
@@ -12,7 +11,7 @@ use Rattle.seven_bit.proofs.SevenBitLaws.{seven_bit_take, seven_bit_part}
 use Rattle.pe_frame.specs.Chunk.{read_end, read_fields}
 use Rattle.pe_frame.proofs.ChunkLaws.{low_short, low_fields}
 use Rattle.pe_frame.proofs.frame.decode_low.Goals as goal
-use Rattle.pe_frame.proofs.frame.decode_low.Goals.{After-u14_at-nd, Joined-chunk_num-ne1, Start}
+use Rattle.pe_frame.proofs.frame.decode_low.Goals.{After-u14_at-nd, Joined-chunk_num-ne1, Start, then-chunk_num-ne1+else-nh-ne0, else-chunk_num-ne1}
 
 all : (c : Start) → is_seven_bit (take (length ((c.args.«data».now))) ((c.args.«data».now))) ≡ true
 all c = seven_bit_take (length ((c.args.«data».now))) ((c.args.«data».now)) c.requires.1
@@ -30,8 +29,10 @@ property c = seven_bit_part (9 + (c.u14_at-nh.result)) c.u14_at-nd.result ((c.ar
 -- number 1, or no header
 first : (c : Joined-chunk_num-ne1) → (eqb c.u14_at-chunk_num.result 1 || eqb ((c.u14_at-nh.result)) 0) ≡ true
 first c =
-    ⊎_elim (λ w. rw (eq-eqb _ _ w.1.left) (or-true (eqb c.u14_at-chunk_num.result 1)))
-    (λ w. rw (eq-eqb _ _ w.left)) c.if-chunk_num-ne1.branch
+    elim c.if-chunk_num-ne1.branch [
+      then-chunk_num-ne1+else-nh-ne0 w ↦ rw (eq-eqb _ _ w.if-nh-ne0.false) (or-true (eqb c.u14_at-chunk_num.result 1))
+    | else-chunk_num-ne1 w ↦ rw (eq-eqb _ _ w.if-chunk_num-ne1.false)
+    ]
 
 pub returns-then-data-property_at : goal.returns-then-data-property_at
 returns-then-data-property_at c =

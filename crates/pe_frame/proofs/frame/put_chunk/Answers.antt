@@ -1,19 +1,20 @@
 use mathlib.Core.Path.{◌≡◌, sym, ap, ◌∙◌}
-use Prim.Native.Nat.{◌+◌, ◌<◌}
+use Prim.Native.Nat.{ℕ, ◌+◌, ◌<◌}
 use native.Mathlib.Omega.{arith}
 use borrow.Author.Tests.{le-leb, lt-leb}
 use lib.ListN.{length}
+use mathlib.Core.List.{List}
 use Rattle.seven_bit.specs.Parts.{put_fit}
 use Rattle.seven_bit.proofs.PartLaws.{fit_yes, fit_no, length_put}
 use Rattle.pe_frame.specs.Chunk.{chunk_from}
 use Rattle.pe_frame.specs.Write.{chunk_bytes, chunk_len, put_chunk}
 use Rattle.pe_frame.proofs.ChunkLaws.{put_small, chunk_length}
 use Rattle.pe_frame.proofs.frame.put_chunk.Goals as goal
-use Rattle.pe_frame.proofs.frame.put_chunk.Goals.{Else-chunk_num-gt-U14_MAX, Start}
+use Rattle.pe_frame.proofs.frame.put_chunk.Goals.{Else-chunk_num-gt-U14_MAX}
 
-size : (c : Start) → length (chunk_bytes ((chunk_from c.args.request_id c.args.header.now c.args.num_chunks c.args.chunk_num c.args.property.now))) ≡ 9 + length c.args.header.now + length c.args.property.now
+size : (id : ℕ) (header : List ℕ) (count number : ℕ) (property : List ℕ) → length (chunk_bytes (chunk_from id header count number property)) ≡ 9 + length header + length property
 unfolding chunk_len
-size c = chunk_length ((chunk_from c.args.request_id c.args.header.now c.args.num_chunks c.args.chunk_num c.args.property.now))
+size id header count number property = chunk_length (chunk_from id header count number property)
 
 -- the numbers have 14 bits: what is left is whether it fits
 left : (c : Else-chunk_num-gt-U14_MAX)
@@ -24,7 +25,7 @@ left c = put_small ((chunk_from c.args.request_id c.args.header.now c.args.num_c
 short : (c : Else-chunk_num-gt-U14_MAX) → let a = c.args in length a.out.now < a.at + (9 + length a.header.now + length a.property.now)
     → put_chunk ((chunk_from c.args.request_id c.args.header.now c.args.num_chunks c.args.chunk_num c.args.property.now)) a.out.now a.at ≡ a.out.now
 short c h =
-    (put_small ((chunk_from c.args.request_id c.args.header.now c.args.num_chunks c.args.chunk_num c.args.property.now)) _ _ c.if-header.false c.if-property.false c.if-num_chunks-gt-U14_MAX.false c.if-chunk_num-gt-U14_MAX.false) ∙ fit_no c.args.out.now c.args.at (chunk_bytes ((chunk_from c.args.request_id c.args.header.now c.args.num_chunks c.args.chunk_num c.args.property.now))) (omega (arith, size c.before.before.before.before.before.before.before, h))
+    (put_small ((chunk_from c.args.request_id c.args.header.now c.args.num_chunks c.args.chunk_num c.args.property.now)) _ _ c.if-header.false c.if-property.false c.if-num_chunks-gt-U14_MAX.false c.if-chunk_num-gt-U14_MAX.false) ∙ fit_no c.args.out.now c.args.at (chunk_bytes ((chunk_from c.args.request_id c.args.header.now c.args.num_chunks c.args.chunk_num c.args.property.now))) (omega (arith, size c.args.request_id c.args.header.now c.args.num_chunks c.args.chunk_num c.args.property.now, h))
 
 pub returns-then-header : goal.returns-then-header
 unfolding put_chunk
@@ -63,7 +64,7 @@ shape_of-out c = ap length c.fill.ensures ∙ length_put c.args.out.now _ _
 
 pub returns : goal.returns
 returns c =
-    let l = size (goal.at.returns c).Start in
+    let l = size c.args.request_id c.args.header.now c.args.num_chunks c.args.chunk_num c.args.property.now in
     c.fill.ensures
     ∙ sym (left (goal.at.returns c).Else-chunk_num-gt-U14_MAX
     ∙ fit_yes c.args.out.now c.args.at (chunk_bytes ((chunk_from c.args.request_id c.args.header.now c.args.num_chunks c.args.chunk_num c.args.property.now)))

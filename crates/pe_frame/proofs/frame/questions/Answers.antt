@@ -2,7 +2,6 @@ use Prim.Native.Nat.{◌+◌}
 use mathlib.Core.Path.{◌≡◌, sym, ◌∙◌}
 use lib.ListN.{length}
 use mathlib.Core.Bool.{true, false, ◌||◌, or-true}
-use mathlib.Core.Logic.{⊎_elim}
 use borrow.Author.Tests.{le-leb, lt-leb, eq-eqb, ne_eqb, not-true, not-false}
 use lib.Dec.{eqb}
 use Rattle.seven_bit.specs.SevenBit.{is_seven_bit}
@@ -11,7 +10,7 @@ use Rattle.pe_frame.specs.Chunk.{chunk_from}
 use Rattle.pe_frame.specs.Write.{ask_chunk}
 use Rattle.pe_frame.proofs.ChunkLaws.{ask_bytes, past_numbers, ask_yes}
 use Rattle.pe_frame.proofs.frame.questions.Goals as goal
-use Rattle.pe_frame.proofs.frame.questions.Goals.{Else-chunk_num-gt-U14_MAX, Else-not-all_seven_bit, Else-not-all_seven_bit-2, Joined-chunk_num-ne1}
+use Rattle.pe_frame.proofs.frame.questions.Goals.{Else-chunk_num-gt-U14_MAX, Else-not-all_seven_bit, Else-not-all_seven_bit-2, Joined-chunk_num-ne1, then-chunk_num-ne1+else-header-ne0, else-chunk_num-ne1}
 
 numbers : (c : Else-chunk_num-gt-U14_MAX) → ask_chunk ((chunk_from c.args.request_id c.args.header.now c.args.num_chunks c.args.chunk_num c.args.property.now)) ((granted (9 + length c.args.header.now + length c.args.property.now))) ≡ ask_bytes ((chunk_from c.args.request_id c.args.header.now c.args.num_chunks c.args.chunk_num c.args.property.now)) ((granted (9 + length c.args.header.now + length c.args.property.now)))
 numbers c =
@@ -28,7 +27,10 @@ property_bytes c = sym c.all_seven_bit-2.ensures ∙ not-false _ c.if-not-all_se
 -- number 1, or no header
 first : (c : Joined-chunk_num-ne1) → (eqb c.args.chunk_num 1 || eqb (length c.args.header.now) 0) ≡ true
 first c =
-    ⊎_elim (λ w. rw (eq-eqb _ _ w.1.left) (or-true (eqb c.args.chunk_num 1))) (λ w. rw (eq-eqb _ _ w.left)) c.if-chunk_num-ne1.branch
+    elim c.if-chunk_num-ne1.branch [
+      then-chunk_num-ne1+else-header-ne0 w ↦ rw (eq-eqb _ _ w.if-header-ne0.false) (or-true (eqb c.args.chunk_num 1))
+    | else-chunk_num-ne1 w ↦ rw (eq-eqb _ _ w.if-chunk_num-ne1.false)
+    ]
 
 pub returns-then-request_id-gt-REQUEST_ID_MAX : goal.returns-then-request_id-gt-REQUEST_ID_MAX
 unfolding ask_chunk
@@ -93,13 +95,13 @@ pub returns : goal.returns
 returns c =
     sym
     (ask_yes _ _ (record {
-      id = c.if-request_id-gt-REQUEST_ID_MAX.left;
-      header_len = c.if-header.left;
-      property_len = c.if-property.left;
-      count = c.if-num_chunks-gt-U14_MAX.left;
-      number = c.if-chunk_num-gt-U14_MAX.left;
-      header_bytes = header_bytes c;
-      property_bytes = property_bytes c;
-      first = first c;
+      id = c.if-request_id-gt-REQUEST_ID_MAX.false;
+      header_len = c.if-header.false;
+      property_len = c.if-property.false;
+      count = c.if-num_chunks-gt-U14_MAX.false;
+      number = c.if-chunk_num-gt-U14_MAX.false;
+      header_bytes = header_bytes (goal.at.returns c).Else-not-all_seven_bit;
+      property_bytes = property_bytes (goal.at.returns c).Else-not-all_seven_bit-2;
+      first = first (goal.at.returns c).Joined-chunk_num-ne1;
       within = sym c.is_within_count.ensures ∙ not-false _ c.if-not-is_within_count.false-raw;
     }))

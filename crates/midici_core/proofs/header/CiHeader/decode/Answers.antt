@@ -27,11 +27,11 @@ unfolding read_header
 returns-in-Refused-muid_at c =
     let d = sym c.muid_at.ensures ∙ ap muid_told c.in-Value.is in
     let e = sym c.muid_at-2.ensures ∙ ap muid_told c.in-Refused-muid_at.is in
-    rw (le-leb _ _ c.if-body-lt-CI_HEADER_LEN.left, eq-eqb _ _ c.if-body-ne-UNIVERSAL_NON_REALTIME.left, eq-eqb _ _ c.if-body-ne-SUB_ID1_MIDI_CI.left, d, e)
+    rw (le-leb _ _ c.if-body-lt-CI_HEADER_LEN.false, eq-eqb _ _ c.if-body-ne-UNIVERSAL_NON_REALTIME.false, eq-eqb _ _ c.if-body-ne-SUB_ID1_MIDI_CI.false, d, e)
 
 pub returns : goal.returns
 unfolding read_header
 returns c =
     let d = sym c.muid_at.ensures ∙ ap muid_told c.in-Value.is in
     let e = sym c.muid_at-2.ensures ∙ ap muid_told c.in-Value-muid_at.is in
-    rw (le-leb _ _ c.if-body-lt-CI_HEADER_LEN.left, eq-eqb _ _ c.if-body-ne-UNIVERSAL_NON_REALTIME.left, eq-eqb _ _ c.if-body-ne-SUB_ID1_MIDI_CI.left, d, e)
+    rw (le-leb _ _ c.if-body-lt-CI_HEADER_LEN.false, eq-eqb _ _ c.if-body-ne-UNIVERSAL_NON_REALTIME.false, eq-eqb _ _ c.if-body-ne-SUB_ID1_MIDI_CI.false, d, e)
