@@ -2,8 +2,6 @@ pub mod RecordLaws
 pub mod ScanLaws
 pub mod EvenLaws
 pub mod MetaLaws
-pub mod Turn
-pub mod Lent
 pub mod OrderLaws
 pub mod OrderHeldLaws
 pub mod OrderJoinLaws

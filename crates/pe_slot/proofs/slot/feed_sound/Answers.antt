@@ -31,15 +31,15 @@ add_piece-requires c =
 
 pub returns-in-No-add_piece : goal.returns-in-No-add_piece
 returns-in-No-add_piece c =
-    piece_no (reaching (goal.at.returns-in-No-add_piece c).Start) c.take_header.ensures (ap asked_told c.in_default.is) c.take_count.ensures (not-false _ c.if-not-take_count.left) c.add_piece.ensures
+    piece_no (reaching (goal.at.returns-in-No-add_piece c).Start) c.take_header.ensures (ap asked_told c.in_default.is) c.take_count.ensures (not-false _ c.if-not-take_count.false-raw) c.add_piece.ensures
     (ap asked_told c.in-No-add_piece.is)
 
 pub finish-requires : goal.finish-requires
 finish-requires c =
-    ready_piece (reaching (goal.at.finish-requires c).Start) c.take_header.ensures (ap asked_told c.in_default.is) c.take_count.ensures (not-false _ c.if-not-take_count.left) c.add_piece.ensures
+    ready_piece (reaching (goal.at.finish-requires c).Start) c.take_header.ensures (ap asked_told c.in_default.is) c.take_count.ensures (not-false _ c.if-not-take_count.false-raw) c.add_piece.ensures
     (ap asked_told c.in_default-add_piece.is)
 
 pub returns : goal.returns
 returns c =
-    all_passed (reaching (goal.at.returns c).Start) c.take_header.ensures (ap asked_told c.in_default.is) c.take_count.ensures (not-false _ c.if-not-take_count.left) c.add_piece.ensures
+    all_passed (reaching (goal.at.returns c).Start) c.take_header.ensures (ap asked_told c.in_default.is) c.take_count.ensures (not-false _ c.if-not-take_count.false-raw) c.add_piece.ensures
     (ap asked_told c.in_default-add_piece.is) c.finish.ensures

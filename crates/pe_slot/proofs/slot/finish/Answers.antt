@@ -29,13 +29,13 @@ join-requires c =
     let records = c.requires.records in
     let body = c.requires.body in
     let room = c.requires.body_room in
-    (c.if-len-count.left, held, record { few = omega arith; ends = c.requires.ends; bytes = body; room = omega arith })
+    (c.if-len-count.false, held, record { few = omega arith; ends = c.requires.ends; bytes = body; room = omega arith })
 
 pub returns-in_default : goal.returns-in_default
 returns-in_default c =
     let a = c.args in
     finish_missing a.words.now a.index.now a.header.now a.arena.now a.out_header.now a.out_body.now
-    c.if-words-eq0.left c.if-count-eq0.left c.join.ensures c.in_default.is
+    c.if-words-eq0.false c.if-count-eq0.false c.join.ensures c.in_default.is
 
 pub slice_bounds-copy_in-end : goal.slice_bounds-copy_in-end
 slice_bounds-copy_in-end c =
@@ -45,5 +45,5 @@ pub returns : goal.returns
 returns c =
     let a = c.args in
     finish_whole a.words.now a.index.now a.header.now a.arena.now a.out_header.now a.out_body.now
-    c.if-words-eq0.left c.if-count-eq0.left c.join.ensures c.in-Body.body_len
+    c.if-words-eq0.false c.if-count-eq0.false c.join.ensures c.in-Body.body_len
     (c.close.ensures ∙ close_nine _ c.requires.nine) c.in-Body.is c.copy_in.ensures c.requires.head c.requires.header_room

@@ -1,8 +1,9 @@
 use mathlib.Core.Bool.{or-true}
-use Rattle.std.proofs.Common.{eqb, sym, ◌∙◌, ⊎_elim, eq-eqb, ne_eqb}
+use Rattle.std.proofs.Common.{eqb, sym, ◌∙◌, eq-eqb, ne_eqb}
 use borrow.Author.Tests.{not-true, not-false}
 use Rattle.pe_slot.specs.Steps.{take_count}
 use Rattle.pe_slot.proofs.slot.take_count.Goals as goal
+use Rattle.pe_slot.proofs.slot.take_count.Goals.{then-num_chunks-ne0+else-num_chunks-known, else-num_chunks-ne0}
 
 pub returns-then-num_chunks-eq0 : goal.returns-then-num_chunks-eq0
 unfolding take_count
@@ -31,4 +32,7 @@ unfolding take_count
 returns c =
     let a = c.args in
     rw (ne_eqb _ _ c.if-known-eq0.false)
-    (⊎_elim (λ w. rw (eq-eqb _ _ (sym w.1.left), or-true (eqb a.num_chunks 0))) (λ w. rw (eq-eqb _ _ w.left)) c.if-num_chunks-ne0.branch)
+    (elim c.if-num_chunks-ne0.branch [
+      | then-num_chunks-ne0+else-num_chunks-known w ↦ rw (eq-eqb _ _ (sym w.if-num_chunks-known.false), or-true (eqb a.num_chunks 0))
+      | else-num_chunks-ne0 w ↦ rw (eq-eqb _ _ w.if-num_chunks-ne0.false)
+    ])
