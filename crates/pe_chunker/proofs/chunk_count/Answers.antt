@@ -71,8 +71,8 @@ returns c =
     (sym (cut_asked _ _ _ _ _
     (record {
       low = c.if-request_id-gt-REQUEST_ID_MAX.false;
-      header_bytes = low c;
-      body_bytes = body-low c;
+      header_bytes = low (goal.at.returns c).Else-not-all_seven_bit;
+      body_bytes = body-low (goal.at.returns c).Else-not-all_seven_bit-2;
       receivable = omega arith;
       fits = omega arith;
       few = omega arith;
