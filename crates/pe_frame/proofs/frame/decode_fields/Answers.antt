@@ -8,7 +8,7 @@ unfolding read_fields
 returns-then-data-lt-PE_FRAMING_LEN c = rw (lt-leb _ _ c.if-data-lt-PE_FRAMING_LEN.true)
 
 pub high_byte-requires : goal.high_byte-requires
-high_byte-requires c = (c.if-data-lt-PE_FRAMING_LEN.false, sym c.all_low.ensures ∙ not-true _ c.if-not-all_low.true-raw)
+high_byte-requires c = (c.if-data-lt-PE_FRAMING_LEN.false, sym c.all_low.ensures ∙ c.if-not-all_low.true)
 
 pub decode_low-requires : goal.decode_low-requires
-decode_low-requires c = (c.if-data-lt-PE_FRAMING_LEN.false, sym c.all_low.ensures ∙ not-false _ c.if-not-all_low.false-raw)
+decode_low-requires c = (c.if-data-lt-PE_FRAMING_LEN.false, sym c.all_low.ensures ∙ c.if-not-all_low.false)

@@ -61,11 +61,11 @@ returns-then-nh-ne0 c =
 pub returns-then-not-is_within_count : goal.returns-then-not-is_within_count
 unfolding read_end
 returns-then-not-is_within_count c =
-    let w = sym c.is_within_count.ensures ∙ not-true _ c.if-not-is_within_count.true-raw in
+    let w = sym c.is_within_count.ensures ∙ c.if-not-is_within_count.true in
     rw (behind (goal.at.returns-then-not-is_within_count c).After-u14_at-nd, le-leb _ _ c.if-data-property_at-2.false, le-leb _ _ c.if-property_at-nd.false, property (goal.at.returns-then-not-is_within_count c).After-u14_at-nd, first (goal.at.returns-then-not-is_within_count c).Joined-chunk_num-ne1, w)
 
 pub returns : goal.returns
 unfolding read_end
 returns c =
-    let w = sym c.is_within_count.ensures ∙ not-false _ c.if-not-is_within_count.false-raw in
+    let w = sym c.is_within_count.ensures ∙ c.if-not-is_within_count.false in
     rw (behind (goal.at.returns c).After-u14_at-nd, le-leb _ _ c.if-data-property_at-2.false, le-leb _ _ c.if-property_at-nd.false, property (goal.at.returns c).After-u14_at-nd, first (goal.at.returns c).Joined-chunk_num-ne1, w)

@@ -19,10 +19,10 @@ numbers c =
 
 -- the header's bytes, and the property's
 header_bytes : (c : Else-not-all_seven_bit) → is_seven_bit c.args.header.now ≡ true
-header_bytes c = sym c.all_seven_bit.ensures ∙ not-false _ c.if-not-all_seven_bit.false-raw
+header_bytes c = sym c.all_seven_bit.ensures ∙ c.if-not-all_seven_bit.false
 
 property_bytes : (c : Else-not-all_seven_bit-2) → is_seven_bit c.args.property.now ≡ true
-property_bytes c = sym c.all_seven_bit-2.ensures ∙ not-false _ c.if-not-all_seven_bit-2.false-raw
+property_bytes c = sym c.all_seven_bit-2.ensures ∙ c.if-not-all_seven_bit-2.false
 
 -- number 1, or no header
 first : (c : Joined-chunk_num-ne1) → (eqb c.args.chunk_num 1 || eqb (length c.args.header.now) 0) ≡ true
@@ -55,7 +55,7 @@ returns-then-chunk_num-gt-U14_MAX c =
 
 pub returns-then-not-all_seven_bit : goal.returns-then-not-all_seven_bit
 returns-then-not-all_seven_bit c =
-    let bad : is_seven_bit c.args.header.now ≡ false = sym c.all_seven_bit.ensures ∙ not-true _ c.if-not-all_seven_bit.true-raw in
+    let bad : is_seven_bit c.args.header.now ≡ false = sym c.all_seven_bit.ensures ∙ c.if-not-all_seven_bit.true in
     rw (
       numbers (goal.at.returns-then-not-all_seven_bit c).Else-chunk_num-gt-U14_MAX,
       bad,
@@ -63,7 +63,7 @@ returns-then-not-all_seven_bit c =
 
 pub returns-then-not-all_seven_bit-2 : goal.returns-then-not-all_seven_bit-2
 returns-then-not-all_seven_bit-2 c =
-    let bad : is_seven_bit c.args.property.now ≡ false = sym c.all_seven_bit-2.ensures ∙ not-true _ c.if-not-all_seven_bit-2.true-raw in
+    let bad : is_seven_bit c.args.property.now ≡ false = sym c.all_seven_bit-2.ensures ∙ c.if-not-all_seven_bit-2.true in
     rw (
       numbers (goal.at.returns-then-not-all_seven_bit-2 c).Else-chunk_num-gt-U14_MAX,
       header_bytes (goal.at.returns-then-not-all_seven_bit-2 c).Else-not-all_seven_bit,
@@ -82,7 +82,7 @@ returns-then-header-ne0 c =
 
 pub returns-then-not-is_within_count : goal.returns-then-not-is_within_count
 returns-then-not-is_within_count c =
-    let beyond = sym c.is_within_count.ensures ∙ not-true _ c.if-not-is_within_count.true-raw in
+    let beyond = sym c.is_within_count.ensures ∙ c.if-not-is_within_count.true in
     rw (
       numbers (goal.at.returns-then-not-is_within_count c).Else-chunk_num-gt-U14_MAX,
       header_bytes (goal.at.returns-then-not-is_within_count c).Else-not-all_seven_bit,
@@ -103,5 +103,5 @@ returns c =
       header_bytes = header_bytes (goal.at.returns c).Else-not-all_seven_bit;
       property_bytes = property_bytes (goal.at.returns c).Else-not-all_seven_bit-2;
       first = first (goal.at.returns c).Joined-chunk_num-ne1;
-      within = sym c.is_within_count.ensures ∙ not-false _ c.if-not-is_within_count.false-raw;
+      within = sym c.is_within_count.ensures ∙ c.if-not-is_within_count.false;
     }))

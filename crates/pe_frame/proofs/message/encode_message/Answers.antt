@@ -20,10 +20,10 @@ use Rattle.pe_frame.proofs.message.encode_message.Goals.{After-fill, After-put_h
 
 -- both consoles within 28 bits, and a kind that carries a chunk
 consoles : (c : Else-not-is_pe_chunked_sub_id) → within28 (header_for c.args.sub_id2 c.args.source.0 c.args.dest.0) ≡ true
-consoles c = sym c.muids_fit.ensures ∙ not-false _ c.if-not-muids_fit.false-raw
+consoles c = sym c.muids_fit.ensures ∙ c.if-not-muids_fit.false
 
 kind : (c : Else-not-is_pe_chunked_sub_id) → carries_chunk c.args.sub_id2 ≡ true
-kind c = sym c.is_pe_chunked_sub_id.ensures ∙ not-false _ c.if-not-is_pe_chunked_sub_id.false-raw
+kind c = sym c.is_pe_chunked_sub_id.ensures ∙ c.if-not-is_pe_chunked_sub_id.false
 
 told : (c : In-Bytes) → InRange ((chunk_from c.args.request_id c.args.header.now c.args.num_chunks c.args.chunk_num c.args.property.now)) × (granted ((9 + length c.args.header.now + length c.args.property.now)) ≡ granted c.in-Bytes.n)
 told c = ask_told ((chunk_from c.args.request_id c.args.header.now c.args.num_chunks c.args.chunk_num c.args.property.now)) _ _ (sym c.questions.ensures ∙ ap chunk_len_told c.in-Bytes.is)
@@ -45,15 +45,15 @@ pub returns-then-not-muids_fit : goal.returns-then-not-muids_fit
 unfolding write_whole
 returns-then-not-muids_fit c =
     let a = c.args in
-    let e : within28 (header_for a.sub_id2 a.source.0 a.dest.0) ≡ false = sym c.muids_fit.ensures ∙ not-true _ c.if-not-muids_fit.true-raw in
+    let e : within28 (header_for a.sub_id2 a.source.0 a.dest.0) ≡ false = sym c.muids_fit.ensures ∙ c.if-not-muids_fit.true in
     rw e
 
 pub returns-then-not-is_pe_chunked_sub_id : goal.returns-then-not-is_pe_chunked_sub_id
 unfolding write_whole
 returns-then-not-is_pe_chunked_sub_id c =
     let a = c.args in
-    let w : within28 (header_for a.sub_id2 a.source.0 a.dest.0) ≡ true = sym c.muids_fit.ensures ∙ not-false _ c.if-not-muids_fit.false-raw in
-    let k : carries_chunk a.sub_id2 ≡ false = sym c.is_pe_chunked_sub_id.ensures ∙ not-true _ c.if-not-is_pe_chunked_sub_id.true-raw in
+    let w : within28 (header_for a.sub_id2 a.source.0 a.dest.0) ≡ true = sym c.muids_fit.ensures ∙ c.if-not-muids_fit.false in
+    let k : carries_chunk a.sub_id2 ≡ false = sym c.is_pe_chunked_sub_id.ensures ∙ c.if-not-is_pe_chunked_sub_id.true in
     rw (w, k)
 
 pub returns-in-Refused : goal.returns-in-Refused

@@ -8,25 +8,21 @@ use Rattle.pe_wire.specs.Wire.{encoded_told}
 use Rattle.pe_mcoded7.proofs.AskLaws.{ask_text, check_next, check_end, told_wrote, told_refused}
 use Rattle.seven_bit.specs.Reply.{and_next}
 use Rattle.pe_mcoded7.proofs.groups.check.Goals as goal
+use Rattle.pe_mcoded7.proofs.groups.check.Goals.{After-check_group-checked}
 
-abbrev text : tie.After-check-group invariant-loop decreases-loop → List ℕ
-text c = c.before.before.before.before.before.before.args.input.now
-
--- its answer is that of the group, and then that of what follows the group
-answer : (c : tie.After-check-group invariant-loop decreases-loop)
-    → ask_text (text c) ≡ and_next (encoded_told c.check-group.result) (λ _. ask_text (drop c.before.before.group-end.result (text c)))
-answer c =
-    let l = c.before.before.before.before.loop in
-    l.invariant.1 ∙ check_next _ l.i c.before.before.group-end.result _ (omega arith) (omega arith) c.check-group.ensures
+-- the group's answer, and then that of what follows the group
+answer : (c : After-check_group-checked)
+    → ask_text c.args.input.now ≡ and_next (encoded_told c.check_group-checked.result) (λ _. ask_text (drop c.group_end-end.result c.args.input.now))
+answer c = c.loop-i.invariant.1 ∙ check_next _ c.loop-i.i c.group_end-end.result _ (omega arith) (omega arith) c.check_group-checked.ensures
 
 pub loop-i-init : goal.loop-i-init
 loop-i-init c = (search rules, refl)
 
 pub returns-in_default : goal.returns-in_default
-returns-in_default c = sym (answer c ∙ told_refused _ _ _ c.in_default.is)
+returns-in_default c = sym (answer (goal.at.returns-in_default c).After-check_group-checked ∙ told_refused _ _ _ c.in_default.is)
 
 pub loop-i-preserved : goal.loop-i-preserved
-loop-i-preserved c = (search rules, answer c ∙ told_wrote _ _ _ c.in-Wrote.is)
+loop-i-preserved c = (search rules, answer (goal.at.loop-i-preserved c).After-check_group-checked ∙ told_wrote _ _ _ c.in-Wrote.is)
 
 pub returns : goal.returns
 returns c = sym (c.loop-i.invariant.1 ∙ check_end _ (drop_of_length-le c.args.input.now c.loop-i-test.false))

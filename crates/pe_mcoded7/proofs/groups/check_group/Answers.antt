@@ -9,13 +9,13 @@ use Rattle.pe_mcoded7.proofs.groups.check_group.Goals.{Else-not-all_seven_bit}
 
 -- what the calls tell of the group
 low-is : (c : Else-not-all_seven_bit) → is_seven_bit c.args.group.now ≡ true
-low-is c = sym c.all_seven_bit.ensures ∙ not-false _ c.if-not-all_seven_bit.false-raw
+low-is c = sym c.all_seven_bit.ensures ∙ c.if-not-all_seven_bit.false
 
 pub returns-then-group-lt2 : goal.returns-then-group-lt2
 returns-then-group-lt2 c = sym (group_short _ _ (omega arith))
 
 pub returns-then-not-all_seven_bit : goal.returns-then-not-all_seven_bit
-returns-then-not-all_seven_bit c = sym (group_high _ _ (omega arith) (sym c.all_seven_bit.ensures ∙ not-true _ c.if-not-all_seven_bit.true-raw))
+returns-then-not-all_seven_bit c = sym (group_high _ _ (omega arith) (sym c.all_seven_bit.ensures ∙ c.if-not-all_seven_bit.true))
 
 pub returns-then-spare_bits-ne0 : goal.returns-then-spare_bits-ne0
 returns-then-spare_bits-ne0 c = sym (group_spare _ _ (omega arith) (low-is (goal.at.returns-then-spare_bits-ne0 c).Else-not-all_seven_bit) (omega arith))

@@ -17,10 +17,10 @@ loop-i-init c =
     (search rules, rw e (sym (put_none _ _)), rw e, search rules, refl)
 
 pub overflow_mul-flags : goal.overflow_mul-flags
-overflow_mul-flags c = omega (arith, c.shared_slice_known-1.given (c.loop-i.i - 1))
+overflow_mul-flags c = omega (arith, c.type_inv.group (c.loop-i.i - 1))
 
 pub overflow_add-flags : goal.overflow_add-flags
-overflow_add-flags c = omega (arith, c.shared_slice_known-1.given (c.loop-i.i - 1))
+overflow_add-flags c = omega (arith, c.type_inv.group (c.loop-i.i - 1))
 
 pub loop-i-preserved : goal.loop-i-preserved
 loop-i-preserved c =
@@ -32,7 +32,7 @@ loop-i-preserved c =
       ap (λ (d : List ℕ). set d (a.at + 1 + j) (get_or g j 0 % 128)) l.invariant.1
           ∙ low_before a.out.now g (a.at + 1 + j) (a.at + 1 + l.i) l.i j (omega arith) (omega arith) (omega arith),
       ap (λ (f : ℕ). f / 2 + get_or g j 0 / 128 * 64) l.invariant.2 ∙ flags_before g l.i j (omega arith) (omega arith) (omega arith),
-      omega (arith, c.shared_slice_known-1.given j),
+      omega (arith, c.type_inv.group j),
       simp length-set l.invariant.4,
     )
 

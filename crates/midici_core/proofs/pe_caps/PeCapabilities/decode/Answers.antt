@@ -20,7 +20,7 @@ header c = header_answered c.decode.ensures c.in-Value.is
 
 -- the questions that had a yes, as the definition puts them
 kind : (c : Else-not-is_caps) → is_caps (header_of c.in-Value.h).kind ≡ true
-kind c = sym c.is_caps.ensures ∙ not-false _ c.if-not-is_caps.false-raw
+kind c = sym c.is_caps.ensures ∙ c.if-not-is_caps.false
 
 long : (c : After-all_seven_bit) → 13 + caps_len ((c.in-Value.h.version)) ≤ length ((c.args.body.now))
 long c = omega (arith, c.if-body-end.false, c.data_len-end.ensures)
@@ -38,7 +38,7 @@ returns-in-Refused c = rw (header_answered c.decode.ensures c.in-Refused.is)
 pub returns-then-not-is_caps : goal.returns-then-not-is_caps
 unfolding read_caps
 returns-then-not-is_caps c =
-    let k = sym c.is_caps.ensures ∙ not-true _ c.if-not-is_caps.true-raw in
+    let k = sym c.is_caps.ensures ∙ c.if-not-is_caps.true in
     rw (header (goal.at.returns-then-not-is_caps c).In-Value, k)
 
 pub overflow_add-end : goal.overflow_add-end
@@ -54,7 +54,7 @@ returns-then-body-end c =
 pub returns-then-not-all_seven_bit : goal.returns-then-not-all_seven_bit
 unfolding read_caps
 returns-then-not-all_seven_bit c =
-    let e = sym (part_of (goal.at.returns-then-not-all_seven_bit c).After-all_seven_bit) ∙ not-true _ c.if-not-all_seven_bit.true-raw in
+    let e = sym (part_of (goal.at.returns-then-not-all_seven_bit c).After-all_seven_bit) ∙ c.if-not-all_seven_bit.true in
     rw (header (goal.at.returns-then-not-all_seven_bit c).In-Value, kind (goal.at.returns-then-not-all_seven_bit c).Else-not-is_caps, le-leb _ _ (long (goal.at.returns-then-not-all_seven_bit c).After-all_seven_bit), e)
 
 pub bounds-body-13 : goal.bounds-body-13
@@ -63,7 +63,7 @@ bounds-body-13 c = omega (arith, long (goal.at.bounds-body-13 c).After-all_seven
 pub returns-then-header-lt-MESSAGE_FORMAT_VERSION_1_2 : goal.returns-then-header-lt-MESSAGE_FORMAT_VERSION_1_2
 unfolding read_caps
 returns-then-header-lt-MESSAGE_FORMAT_VERSION_1_2 c =
-    let e = sym (part_of (goal.at.returns-then-header-lt-MESSAGE_FORMAT_VERSION_1_2 c).After-all_seven_bit) ∙ not-false _ c.if-not-all_seven_bit.false-raw in
+    let e = sym (part_of (goal.at.returns-then-header-lt-MESSAGE_FORMAT_VERSION_1_2 c).After-all_seven_bit) ∙ c.if-not-all_seven_bit.false in
     rw (header (goal.at.returns-then-header-lt-MESSAGE_FORMAT_VERSION_1_2 c).In-Value, kind (goal.at.returns-then-header-lt-MESSAGE_FORMAT_VERSION_1_2 c).Else-not-is_caps, le-leb _ _ (long (goal.at.returns-then-header-lt-MESSAGE_FORMAT_VERSION_1_2 c).After-all_seven_bit), e, byte_below _ (get_or ((c.args.body.now)) 14 0) c.if-header-lt-MESSAGE_FORMAT_VERSION_1_2.true, byte_below _ (get_or ((c.args.body.now)) 15 0) c.if-header-lt-MESSAGE_FORMAT_VERSION_1_2.true)
 
 pub bounds-body-13-2 : goal.bounds-body-13-2
@@ -78,6 +78,6 @@ bounds-body-15 c = omega (arith, long (goal.at.bounds-body-15 c).After-all_seven
 pub returns : goal.returns
 unfolding read_caps
 returns c =
-    let e = sym (part_of (goal.at.returns c).After-all_seven_bit) ∙ not-false _ c.if-not-all_seven_bit.false-raw in
+    let e = sym (part_of (goal.at.returns c).After-all_seven_bit) ∙ c.if-not-all_seven_bit.false in
     let v = c.if-header-lt-MESSAGE_FORMAT_VERSION_1_2.false in
     rw (header (goal.at.returns c).In-Value, kind (goal.at.returns c).Else-not-is_caps, le-leb _ _ (long (goal.at.returns c).After-all_seven_bit), e, byte_since _ (get_or ((c.args.body.now)) 14 0) v, byte_since _ (get_or ((c.args.body.now)) 15 0) v)

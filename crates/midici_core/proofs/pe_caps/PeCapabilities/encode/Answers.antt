@@ -18,7 +18,7 @@ use Rattle.midici_core.proofs.pe_caps.PeCapabilities.encode.Goals.{After-data_le
 
 -- the questions that had a yes, as the definition puts them
 consoles : (c : Else-not-muids_fit) → within28 ((caps_of c.args.self)).header ≡ true
-consoles c = sym c.muids_fit.ensures ∙ not-false _ c.if-not-muids_fit.false-raw
+consoles c = sym c.muids_fit.ensures ∙ c.if-not-muids_fit.false
 
 len : (c : After-data_len-n) → c.data_len-n.result ≡ caps_len ((caps_of c.args.self)).header.version
 len c = c.data_len-n.ensures
@@ -28,7 +28,7 @@ room c = omega (arith, c.if-out-n.false, (c.data_len-n.ensures))
 
 values : (c : Else-not-all_seven_bit) → is_seven_bit (caps_values ((caps_of c.args.self))) ≡ true
 unfolding caps_values
-values c = sym c.all_seven_bit.ensures ∙ not-false _ c.if-not-all_seven_bit.false-raw
+values c = sym c.all_seven_bit.ensures ∙ c.if-not-all_seven_bit.false
 
 -- what out holds then
 after : (c : After-store) → c.store.new.out ≡ put c.args.out.now 0 (caps_bytes ((caps_of c.args.self)))
@@ -40,7 +40,7 @@ after c =
 pub returns-then-not-muids_fit : goal.returns-then-not-muids_fit
 unfolding write_caps
 returns-then-not-muids_fit c =
-    let e : within28 ((caps_of c.args.self)).header ≡ false = sym c.muids_fit.ensures ∙ not-true _ c.if-not-muids_fit.true-raw in
+    let e : within28 ((caps_of c.args.self)).header ≡ false = sym c.muids_fit.ensures ∙ c.if-not-muids_fit.true in
     rw e
 
 pub overflow_add-n : goal.overflow_add-n
@@ -56,7 +56,7 @@ returns-then-out-n c =
 pub returns-then-not-all_seven_bit : goal.returns-then-not-all_seven_bit
 unfolding write_caps caps_values
 returns-then-not-all_seven_bit c =
-    let e : is_seven_bit (caps_values ((caps_of c.args.self))) ≡ false = sym c.all_seven_bit.ensures ∙ not-true _ c.if-not-all_seven_bit.true-raw in
+    let e : is_seven_bit (caps_values ((caps_of c.args.self))) ≡ false = sym c.all_seven_bit.ensures ∙ c.if-not-all_seven_bit.true in
     rw (consoles (goal.at.returns-then-not-all_seven_bit c).Else-not-muids_fit, le-leb _ _ (room (goal.at.returns-then-not-all_seven_bit c).Else-out-n), e)
 
 pub slice_bounds-values-end : goal.slice_bounds-values-end

@@ -19,7 +19,7 @@ returns-in-Refused c = rw (header_answered c.decode.ensures c.in-Refused.is)
 pub returns-then-not-is_pe_chunked_sub_id : goal.returns-then-not-is_pe_chunked_sub_id
 unfolding read_message
 returns-then-not-is_pe_chunked_sub_id c =
-    let k = sym c.is_pe_chunked_sub_id.ensures ∙ not-true _ c.if-not-is_pe_chunked_sub_id.true-raw in
+    let k = sym c.is_pe_chunked_sub_id.ensures ∙ c.if-not-is_pe_chunked_sub_id.true in
     rw (header (goal.at.returns-then-not-is_pe_chunked_sub_id c).In-Value, k)
 
 pub overflow_sub-result : goal.overflow_sub-result
@@ -28,5 +28,5 @@ overflow_sub-result c = omega (arith, read_long _ _ (header (goal.at.overflow_su
 pub returns : goal.returns
 unfolding read_message
 returns c =
-    let k = sym c.is_pe_chunked_sub_id.ensures ∙ not-false _ c.if-not-is_pe_chunked_sub_id.false-raw in
+    let k = sym c.is_pe_chunked_sub_id.ensures ∙ c.if-not-is_pe_chunked_sub_id.false in
     rw (header (goal.at.returns c).In-Value, k)

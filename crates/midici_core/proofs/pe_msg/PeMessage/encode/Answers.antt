@@ -15,13 +15,13 @@ use Rattle.midici_core.proofs.pe_msg.PeMessage.encode.Goals as goal
 pub returns-then-not-muids_fit : goal.returns-then-not-muids_fit
 unfolding write_message
 returns-then-not-muids_fit c =
-    let e : within28 (header_of c.args.header) ≡ false = sym c.muids_fit.ensures ∙ not-true _ c.if-not-muids_fit.true-raw in
+    let e : within28 (header_of c.args.header) ≡ false = sym c.muids_fit.ensures ∙ c.if-not-muids_fit.true in
     rw e
 
 pub returns-then-out-total : goal.returns-then-out-total
 unfolding write_message
 returns-then-out-total c =
-    let e : within28 (header_of c.args.header) ≡ true = sym c.muids_fit.ensures ∙ not-false _ c.if-not-muids_fit.false-raw in
+    let e : within28 (header_of c.args.header) ≡ true = sym c.muids_fit.ensures ∙ c.if-not-muids_fit.false in
     rw (e, lt-leb _ _ c.if-out-total.true)
 
 pub shape_of-out : goal.shape_of-out
@@ -33,6 +33,6 @@ returns c =
     let a = c.args in
     let bytes = bytes_of_header (header_of a.header) ++ a.pe_payload.now in
     let room = c.if-out-total.false in
-    let e : within28 (header_of a.header) ≡ true = sym c.muids_fit.ensures ∙ not-false _ c.if-not-muids_fit.false-raw in
+    let e : within28 (header_of a.header) ≡ true = sym c.muids_fit.ensures ∙ c.if-not-muids_fit.false in
     let l : length bytes ≡ 13 + length a.pe_payload.now = simp (length-append, header_length) in
     rw (e, le-leb _ _ room) (wrote bytes a.out.now _ _ l (c.store.ensures ∙ put_front a.out.now bytes (omega arith)))
