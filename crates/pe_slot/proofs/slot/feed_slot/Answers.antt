@@ -1,5 +1,4 @@
 use Rattle.std.proofs.Common.{◌≡◌, true, length, take, sym, ap, ◌∙◌}
-use borrow.Author.Tests.{not-true, not-false}
 use Rattle.pe_frame.specs.Chunk.{chunk_from}
 use Rattle.pe_slot.specs.Memory.{slot_of, is_sound}
 use Rattle.pe_slot.specs.Records.{holds}
@@ -10,10 +9,10 @@ use Rattle.pe_slot.proofs.slot.feed_slot.Goals as goal
 use Rattle.pe_slot.proofs.slot.feed_slot.Goals.{Else-not-is_shaped, In-Sound}
 
 is_shaped_law : (c : Else-not-is_shaped) → (is_shaped c.args.words.now c.args.index.now c.args.header.now c.args.arena.now c.args.out_header.now c.args.out_body.now ≡ true)
-is_shaped_law c = sym c.is_shaped.ensures ∙ not-false _ c.if-not-is_shaped.false-raw
+is_shaped_law c = sym c.is_shaped.ensures ∙ c.if-not-is_shaped.false
 
 shape : (c : Else-not-is_shaped) → (Shaped c.args.words.now c.args.index.now c.args.header.now c.args.arena.now c.args.out_header.now c.args.out_body.now)
-shape c = shaped_told _ _ _ _ _ _ ((sym c.is_shaped.ensures ∙ not-false _ c.if-not-is_shaped.false-raw))
+shape c = shaped_told _ _ _ _ _ _ ((sym c.is_shaped.ensures ∙ c.if-not-is_shaped.false))
 
 -- a yes to question 31, and the chunk's number among the records
 sound : (c : In-Sound)
@@ -24,7 +23,7 @@ sound c = sound_asked _ _ _ _ _ (sym (ap soundness_told c.in-Sound.is) ∙ c.sou
 pub returns-then-not-is_shaped : goal.returns-then-not-is_shaped
 returns-then-not-is_shaped c =
     fed_unshaped c.args.words.now c.args.index.now c.args.header.now c.args.arena.now ((chunk_from c.args.request_id c.args.chunk_header.now c.args.num_chunks c.args.chunk_num c.args.property.now)) c.args.moment.now_ms c.args.moment.tick c.args.out_header.now c.args.out_body.now
-    (sym c.is_shaped.ensures ∙ not-true _ c.if-not-is_shaped.true-raw)
+    (sym c.is_shaped.ensures ∙ c.if-not-is_shaped.true)
 
 pub soundness_of-requires : goal.soundness_of-requires
 soundness_of-requires c =

@@ -1,5 +1,4 @@
 use Rattle.std.proofs.Common.{ap, arith}
-use borrow.Author.Tests.{not-true, not-false}
 use Rattle.pe_frame.specs.Chunk.{chunk_from}
 use Rattle.pe_slot.specs.Memory.{slot_of}
 use Rattle.pe_slot.specs.Steps.{asked_told}
@@ -22,7 +21,7 @@ take_count-requires c = let r = ready_header (reaching (goal.at.take_count-requi
 
 pub returns-then-not-take_count : goal.returns-then-not-take_count
 returns-then-not-take_count c =
-    count_no (reaching (goal.at.returns-then-not-take_count c).Start) c.take_header.ensures (ap asked_told c.in_default.is) c.take_count.ensures (not-true _ c.if-not-take_count.true-raw)
+    count_no (reaching (goal.at.returns-then-not-take_count c).Start) c.take_header.ensures (ap asked_told c.in_default.is) c.take_count.ensures c.if-not-take_count.true
 
 pub add_piece-requires : goal.add_piece-requires
 add_piece-requires c =
@@ -31,15 +30,15 @@ add_piece-requires c =
 
 pub returns-in-No-add_piece : goal.returns-in-No-add_piece
 returns-in-No-add_piece c =
-    piece_no (reaching (goal.at.returns-in-No-add_piece c).Start) c.take_header.ensures (ap asked_told c.in_default.is) c.take_count.ensures (not-false _ c.if-not-take_count.false-raw) c.add_piece.ensures
+    piece_no (reaching (goal.at.returns-in-No-add_piece c).Start) c.take_header.ensures (ap asked_told c.in_default.is) c.take_count.ensures c.if-not-take_count.false c.add_piece.ensures
     (ap asked_told c.in-No-add_piece.is)
 
 pub finish-requires : goal.finish-requires
 finish-requires c =
-    ready_piece (reaching (goal.at.finish-requires c).Start) c.take_header.ensures (ap asked_told c.in_default.is) c.take_count.ensures (not-false _ c.if-not-take_count.false-raw) c.add_piece.ensures
+    ready_piece (reaching (goal.at.finish-requires c).Start) c.take_header.ensures (ap asked_told c.in_default.is) c.take_count.ensures c.if-not-take_count.false c.add_piece.ensures
     (ap asked_told c.in_default-add_piece.is)
 
 pub returns : goal.returns
 returns c =
-    all_passed (reaching (goal.at.returns c).Start) c.take_header.ensures (ap asked_told c.in_default.is) c.take_count.ensures (not-false _ c.if-not-take_count.false-raw) c.add_piece.ensures
+    all_passed (reaching (goal.at.returns c).Start) c.take_header.ensures (ap asked_told c.in_default.is) c.take_count.ensures c.if-not-take_count.false c.add_piece.ensures
     (ap asked_told c.in_default-add_piece.is) c.finish.ensures

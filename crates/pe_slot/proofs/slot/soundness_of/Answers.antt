@@ -1,24 +1,23 @@
-use Rattle.std.proofs.Common.{sym, ◌∙◌, arith}
-use borrow.Author.Tests.{not-false}
+use Rattle.std.proofs.Common.{not, sym, ap, ◌∙◌, arith}
 use Rattle.pe_slot.specs.Memory.{slot_of}
 use Rattle.pe_slot.proofs.FeedAsked.{bounded_held, unbounded, unlaid, sound, damaged, sound_held}
 use Rattle.pe_slot.proofs.slot.soundness_of.Goals as goal
 
 pub returns-then-not-is_bounded : goal.returns-then-not-is_bounded
 returns-then-not-is_bounded c =
-    damaged _ _ _ _ _ (unbounded _ _ _ ((slot_of c.args.words.now)) c.args.index.now c.is_bounded.ensures c.if-not-is_bounded.true-raw)
+    damaged _ _ _ _ _ (unbounded _ _ _ ((slot_of c.args.words.now)) c.args.index.now c.is_bounded.ensures (ap not c.if-not-is_bounded.true))
 
 pub scan-pass-requires : goal.scan-pass-requires
 scan-pass-requires c =
-    let held = bounded_held _ _ _ ((slot_of c.args.words.now)) (sym c.is_bounded.ensures ∙ not-false _ c.if-not-is_bounded.false-raw) in
+    let held = bounded_held _ _ _ ((slot_of c.args.words.now)) (sym c.is_bounded.ensures ∙ c.if-not-is_bounded.false) in
     let records = c.requires.1 in
     (held, omega arith)
 
 pub returns-then-not-ends_at : goal.returns-then-not-ends_at
 returns-then-not-ends_at c =
-    damaged _ _ _ _ _ (unlaid _ _ _ ((slot_of c.args.words.now)) _ c.is_bounded.ensures c.scan-pass.ensures c.ends_at.ensures c.if-not-ends_at.true-raw)
+    damaged _ _ _ _ _ (unlaid _ _ _ ((slot_of c.args.words.now)) _ c.is_bounded.ensures c.scan-pass.ensures c.ends_at.ensures (ap not c.if-not-ends_at.true))
 
 pub returns : goal.returns
 returns c =
     let pass = c.scan-pass.ensures in
-    sound_held _ _ _ _ _ (sound _ _ _ ((slot_of c.args.words.now)) _ c.is_bounded.ensures pass c.ends_at.ensures c.if-not-is_bounded.false-raw c.if-not-ends_at.false-raw) pass.held
+    sound_held _ _ _ _ _ (sound _ _ _ ((slot_of c.args.words.now)) _ c.is_bounded.ensures pass c.ends_at.ensures (ap not c.if-not-is_bounded.false) (ap not c.if-not-ends_at.false)) pass.held

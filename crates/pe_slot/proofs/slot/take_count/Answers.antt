@@ -1,6 +1,5 @@
 use mathlib.Core.Bool.{or-true}
 use Rattle.std.proofs.Common.{eqb, sym, ◌∙◌, eq-eqb, ne_eqb}
-use borrow.Author.Tests.{not-true, not-false}
 use Rattle.pe_slot.specs.Steps.{take_count}
 use Rattle.pe_slot.proofs.slot.take_count.Goals as goal
 use Rattle.pe_slot.proofs.slot.take_count.Goals.{then-num_chunks-ne0+else-num_chunks-known, else-num_chunks-ne0}
@@ -15,12 +14,12 @@ is_up_to-requires c = c.requires.1
 pub returns-then-not-is_up_to : goal.returns-then-not-is_up_to
 unfolding take_count
 returns-then-not-is_up_to c =
-    rw (eq-eqb _ _ c.if-known-eq0.true, ne_eqb _ _ c.if-num_chunks-eq0.false, sym c.is_up_to.ensures ∙ not-true _ c.if-not-is_up_to.true-raw)
+    rw (eq-eqb _ _ c.if-known-eq0.true, ne_eqb _ _ c.if-num_chunks-eq0.false, sym c.is_up_to.ensures ∙ c.if-not-is_up_to.true)
 
 pub returns-then-known-eq0 : goal.returns-then-known-eq0
 unfolding take_count
 returns-then-known-eq0 c =
-    rw (eq-eqb _ _ c.if-known-eq0.true, ne_eqb _ _ c.if-num_chunks-eq0.false, sym c.is_up_to.ensures ∙ not-false _ c.if-not-is_up_to.false-raw)
+    rw (eq-eqb _ _ c.if-known-eq0.true, ne_eqb _ _ c.if-num_chunks-eq0.false, sym c.is_up_to.ensures ∙ c.if-not-is_up_to.false)
 
 pub returns-then-num_chunks-known : goal.returns-then-num_chunks-known
 unfolding take_count
