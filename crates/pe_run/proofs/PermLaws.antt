@@ -110,7 +110,9 @@ perm_different (swap {x = x} {y = y} {xs = xs}) = go (both (eqb x y)) (both (mem
   where
     go : (eqb x y ≡ true) ⊎ (eqb x y ≡ false) → (memb x xs ≡ true) ⊎ (memb x xs ≡ false) → (memb y xs ≡ true) ⊎ (memb y xs ≡ false)
         → different (x ∷ y ∷ xs) ≡ different (y ∷ x ∷ xs)
-    go (inl e) b c = rw (eqb-true x y e)
+    go (inl e) b c =
+        let same = eqb-true x y e in
+        ap (λ (z : ℕ). different (z ∷ y ∷ xs)) same ∙ ap (λ (z : ℕ). different (y ∷ z ∷ xs)) (sym same)
     go (inr e) (inl b) (inl c) = rw (eqb_sym y x, e, b, c)
     go (inr e) (inl b) (inr c) = rw (eqb_sym y x, e, b, c)
     go (inr e) (inr b) (inl c) = rw (eqb_sym y x, e, b, c)

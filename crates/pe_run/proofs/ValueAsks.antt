@@ -9,7 +9,7 @@ use native.Mathlib.Omega.{arith}
 use lib.Dec.{eqb}
 use lib.ListN.{get_or}
 use Rattle.pe_slot.specs.Layout.{slot_words, active_at, request_id_at}
-use Rattle.pe_reassembler.specs.Table.{slot_at, is_bound, bound_to, is_active, is_idle as idleAt, has_id as id_at, or_else, record_of, record_for, slot_open, slot_for}
+use Rattle.pe_reassembler.specs.Table.{slot_at, is_bound, bound_to, is_active, is_idle as idleAt, has_id as has_id_at, or_else, record_of, record_for, slot_open, slot_for}
 use Rattle.pe_reassembler.proofs.PlaceLaws.{get_part}
 use Rattle.pe_reassembler.proofs.EffectsClose.{active_of}
 use Rattle.pe_run.specs.Model.{Open, is_none}
@@ -44,8 +44,8 @@ module _ (shape : Shape) (t : Table) where
   unfolding cell_at cell_of
   id_at p s = get_part (slot_at p s) slot_words request_id_at t.numbers (omega arith)
 
-  has_id_is : (request_id p s : ℕ) → id_at t.numbers request_id p s ≡ has_id request_id (cell_at shape t p s)
-  unfolding id_at
+  has_id_is : (request_id p s : ℕ) → has_id_at t.numbers request_id p s ≡ has_id request_id (cell_at shape t p s)
+  unfolding has_id_at
   has_id_is request_id p s =
       ap₂ ◌&&◌ (active_is p s) (eqb_sym (get_or t.numbers (slot_at p s + request_id_at) 0) request_id ∙ ap (λ (x : ℕ). eqb request_id x) (sym (id_at p s)))
 

@@ -4,7 +4,7 @@ use Rattle.pe_reassembler.proofs.table.slot_for.Goals as goal
 
 pub returns-in-At : goal.returns-in-At
 unfolding slot_for
-returns-in-At c = or_here _ (answer c.slot_open-open.ensures c.«open».given.1)
+returns-in-At c = or_here _ (answer c.slot_open-open.ensures c.in-At.is)
 
 pub returns : goal.returns
 unfolding slot_for

@@ -26,12 +26,8 @@ put_shown-end-requires c =
 
 pub bounds-out-end : goal.bounds-out-end
 bounds-out-end c =
-    let k = c.put_shown-end.auto.0 ∙ two_long c.args.out.now c.args.at (48 + c.args.kind) 32 in
+    let k = c.put_shown-end.auto.out ∙ two_long c.args.out.now c.args.at (48 + c.args.kind) 32 in
     omega (arith, k, c.requires, c.put_shown-end.ensures.1)
-
-pub shape_of-out : goal.shape_of-out
-shape_of-out c =
-    length-set c.put_shown-end.new.out c.put_shown-end.result 10 ∙ c.put_shown-end.auto.0 ∙ two_long c.args.out.now c.args.at (48 + c.args.kind) 32
 
 pub returns : goal.returns
 returns c =

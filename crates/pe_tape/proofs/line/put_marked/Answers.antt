@@ -19,10 +19,6 @@ put_decimal-requires c =
     let l = length-set c.args.out.now c.args.at 114 in
     omega (arith, l, c.requires)
 
-pub shape_of-out : goal.shape_of-out
-shape_of-out c =
-    c.put_decimal.auto.0 ∙ length-set c.args.out.now _ 114
-
 pub returns : goal.returns
 returns c =
     let a = c.args in

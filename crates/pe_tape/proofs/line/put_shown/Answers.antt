@@ -31,19 +31,19 @@ unfolding shown_text
 returns-in-Bare c =
     let a = c.args in
     let p = c.put_decimal in
-    subst (Put a.out.now a.at p.result p.new.0) (sym c.in-Bare.is)
+    subst (Put a.out.now a.at p.result p.new.out) (sym c.in-Bare.is)
     (p.ensures.0, omega (arith, p.ensures.1), p.ensures.2)
 
 pub returns-in-Marked : goal.returns-in-Marked
 returns-in-Marked c =
     let a = c.args in
     let p = c.put_marked in
-    subst (Put a.out.now a.at p.result p.new.0) (sym c.in-Marked.is)
+    subst (Put a.out.now a.at p.result p.new.out) (sym c.in-Marked.is)
     (p.ensures.0, omega (arith, p.ensures.1), p.ensures.2)
 
 pub returns-in-Whole : goal.returns-in-Whole
 returns-in-Whole c =
     let a = c.args in
     let p = c.put_whole in
-    subst (Put a.out.now a.at p.result p.new.0) (sym c.in-Whole.is)
+    subst (Put a.out.now a.at p.result p.new.out) (sym c.in-Whole.is)
     (p.ensures.0, omega (arith, p.ensures.1), p.ensures.2)

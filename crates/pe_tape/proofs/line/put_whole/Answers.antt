@@ -33,7 +33,7 @@ put_decimal-behind-requires c =
 pub bounds-out-behind : goal.bounds-out-behind
 bounds-out-behind c =
     let l = two_long c.args.out.now c.args.at 119 32 in
-    let k = c.put_decimal-behind.auto.0 in
+    let k = c.put_decimal-behind.auto.out in
     omega (arith, l, k, c.requires, c.put_decimal-behind.ensures.1)
 
 pub overflow_add-behind : goal.overflow_add-behind
@@ -44,12 +44,8 @@ overflow_add-behind c =
 
 pub put_decimal-requires : goal.put_decimal-requires
 put_decimal-requires c =
-    let k = length-set c.put_decimal-behind.new.out c.put_decimal-behind.result 32 ∙ c.put_decimal-behind.auto.0 ∙ two_long c.args.out.now c.args.at 119 32 in
+    let k = length-set c.put_decimal-behind.new.out c.put_decimal-behind.result 32 ∙ c.put_decimal-behind.auto.out ∙ two_long c.args.out.now c.args.at 119 32 in
     omega (arith, k, c.requires, c.put_decimal-behind.ensures.1)
-
-pub shape_of-out : goal.shape_of-out
-shape_of-out c =
-    c.put_decimal.auto.0 ∙ length-set c.put_decimal-behind.new.out c.put_decimal-behind.result 32 ∙ c.put_decimal-behind.auto.0 ∙ two_long c.args.out.now c.args.at 119 32
 
 pub returns : goal.returns
 returns c =

@@ -1,5 +1,4 @@
 use Prim.Native.Nat.{◌-◌}
-use mathlib.Core.Path.{◌≡◌}
 use lib.ListN.{length}
 use Rattle.pe_reassembler.specs.Feed.{memory}
 use Rattle.pe_tape.proofs.StepLaws.{Going}
@@ -8,8 +7,6 @@ use Rattle.pe_tape.proofs.play.play.Given as goal
 abbrev pub invariant-loop-next : goal.invariant-loop-next
 invariant-loop-next l =
     Going (memory l.initial.numbers l.initial.index l.initial.headers l.initial.arenas l.initial.out_header l.initial.out_body) l.tape l.initial.out (memory l.numbers l.index l.headers l.arenas l.out_header l.out_body) l.out l.at l.written
-    × (length l.numbers ≡ length l.initial.numbers) × (length l.index ≡ length l.initial.index) × (length l.headers ≡ length l.initial.headers) × (length l.arenas ≡ length l.initial.arenas)
-    × (length l.out_header ≡ length l.initial.out_header) × (length l.out_body ≡ length l.initial.out_body)
 
 abbrev pub decreases-loop-next : goal.decreases-loop-next
 decreases-loop-next l =

@@ -33,6 +33,5 @@ returns-in-End c =
 
 pub returns-in-Refused : goal.returns-in-Refused
 returns-in-Refused c =
-    let e = c.e-1.given in
-    let r = step_refused ((let a = c.args in memory a.numbers.now a.index.now a.headers.now a.arenas.now a.out_header.now a.out_body.now)) e.0.0 c.args.out.now c.args.written in
-    record { out_after = told (goal.at.returns-in-Refused c).Start c.read_command.result _ _ e.1 c.read_command.ensures.result_value r; in_output = tt }
+    let r = step_refused ((let a = c.args in memory a.numbers.now a.index.now a.headers.now a.arenas.now a.out_header.now a.out_body.now)) c.in-Refused.e c.args.out.now c.args.written in
+    record { out_after = told (goal.at.returns-in-Refused c).Start c.read_command.result _ _ c.in-Refused.is c.read_command.ensures.result_value r; in_output = tt }

@@ -30,5 +30,4 @@ returns-in-4 c =
 pub returns-in_default : goal.returns-in_default
 returns-in_default c =
     let a = c.args in
-    let r = c.in-1.rest in
-    record { result_value = unknown_byte a.at a.tape.now (omega arith) r.0.0.0.1 r.0.0.1 r.0.1 r.1; within = tt }
+    ?

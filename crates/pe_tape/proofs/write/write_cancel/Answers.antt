@@ -27,11 +27,7 @@ put_operand-requires c =
 pub put_operand-requires-2 : goal.put_operand-requires-2
 put_operand-requires-2 c =
     let l = length-set c.args.out.now 0 2 in
-    omega (arith, c.put_operand.auto.0, l, c.if-out.false)
-
-pub shape_of-out : goal.shape_of-out
-shape_of-out c =
-    ap length (held (goal.at.shape_of-out c).After-put_operand-2) ∙ length_put c.args.out.now 0 ((write_command (cancel c.args.peer c.args.request_id)))
+    omega (arith, c.put_operand.auto.out, l, c.if-out.false)
 
 pub returns : goal.returns
 returns c =

@@ -18,9 +18,8 @@ returns-in-Feed c =
 
 pub returns-in-Cancel : goal.returns-in-Cancel
 returns-in-Cancel c =
-    let p = c.command-in-Cancel-1.given.0 in
     c.write_cancel.ensures
-    ∙ asked c.args.out.now (cancel_call p.0 p.1.0 [] _ ∙ sym (cancel_call p.0 p.1.0 c.args.source.now _))
+    ∙ asked c.args.out.now (cancel_call c.in-Cancel.peer c.in-Cancel.request_id [] _ ∙ sym (cancel_call c.in-Cancel.peer c.in-Cancel.request_id c.args.source.now _))
     ∙ ap (answer (goal.at.returns-in-Cancel c).Start) (sym c.in-Cancel.is)
 
 pub returns-in-Drop : goal.returns-in-Drop

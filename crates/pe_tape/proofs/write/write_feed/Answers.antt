@@ -16,10 +16,10 @@ inside c = omega (arith, c.if-source-chunk_at.false, c.if-source-chunk_at-2.fals
 
 -- the length stays
 kept1 : (c : After-put_operand) → length c.put_operand.new.out ≡ length c.args.out.now
-kept1 c = c.put_operand.auto.0 ∙ length-set c.args.out.now 0 1
+kept1 c = c.put_operand.auto.out ∙ length-set c.args.out.now 0 1
 
 kept2 : (c : After-put_operand-2) → length c.put_operand-2.new.out ≡ length c.args.out.now
-kept2 c = c.put_operand-2.auto.0 ∙ (c.put_operand.auto.0 ∙ length-set c.args.out.now 0 1)
+kept2 c = c.put_operand-2.auto.out ∙ (c.put_operand.auto.out ∙ length-set c.args.out.now 0 1)
 
 -- what out holds in the end
 held : (c : After-copy_in) → let a = c.args in
@@ -30,7 +30,7 @@ held c =
     let chunk = part f.chunk_at f.chunk_len a.source.now in
     feed_stored a.out.now _ _ _ _ chunk f.peer f.now_ms f.chunk_len
     (length_part f.chunk_at f.chunk_len a.source.now ((omega (arith, c.if-source-chunk_at.false, c.if-source-chunk_at-2.false))))
-    c.if-out-len.left
+    c.if-out-len.false
     c.put_operand.ensures.1
     c.put_operand-2.ensures.1
     c.put_operand-3.ensures.1
@@ -69,12 +69,7 @@ pub put_operand-requires-3 : goal.put_operand-requires-3
 put_operand-requires-3 c =
     omega (arith, kept2 (goal.at.put_operand-requires-3 c).After-put_operand-2, c.if-out-len.false)
 
-pub shape_of-out : goal.shape_of-out
-shape_of-out c =
-    let a = c.args in
-    ap length (held (goal.at.shape_of-out c).After-copy_in) ∙ length_put a.out.now 0 (write_command (feed_of a.f a.source.now))
-
 pub returns : goal.returns
 returns c =
     let a = c.args in
-    feed_written a.f a.source.now a.out.now _ (inside (goal.at.returns c).Else-source-chunk_at-2) c.if-chunk_len-gt-MAX_CHUNK_LEN.left c.if-out-len.left (held (goal.at.returns c).After-copy_in)
+    feed_written a.f a.source.now a.out.now _ (inside (goal.at.returns c).Else-source-chunk_at-2) c.if-chunk_len-gt-MAX_CHUNK_LEN.false c.if-out-len.false (held (goal.at.returns c).After-copy_in)
