@@ -1,6 +1,6 @@
 -- A chunk written, alone and behind a CI header (document 01, **Write a frame**, and 'Added').
 -- Assumes nothing.
-use Rattle.std.specs.Prelude.{ℕ, ◌+◌, ◌≤◌, true, cond, ◌&&◌, ◌||◌, List, [], ◌∷◌, ◌++◌, ◌≡◌, leb, eqb, length}
+use Rattle.std.specs.Prelude.{ℕ, ◌+◌, ◌≤◌, true, cond, ◌&&◌, ◌||◌, List, ◌∷◌, ◌++◌, ◌≡◌, leb, eqb, length}
 use Rattle.seven_bit.specs.Parts.{put_fit}
 use Rattle.seven_bit.specs.Reply.{Reply, granted, ◌else◌then◌, ◌else◌with◌then◌}
 use Rattle.seven_bit.specs.SevenBit.{is_seven_bit, bytes_of}

@@ -6,7 +6,7 @@ use mathlib.Core.List.{List, [], ◌∷◌, ◌++◌, map}
 use mathlib.Core.Path.{◌≡◌, refl, ap, ◌∙◌}
 use native.Mathlib.Nat.{mul-mod_right}
 use native.Mathlib.Omega.{arith}
-use lib.ListN.{length, get_or, take, drop, length-map}
+use lib.ListN.{length, take, drop, length-map}
 use Rattle.seven_bit.specs.Reply.{Reply}
 use Rattle.seven_bit.specs.SevenBit.{is_seven_bit}
 use Rattle.seven_bit.proofs.SevenBitLaws.{seven_bit_cons, seven_bit_split}

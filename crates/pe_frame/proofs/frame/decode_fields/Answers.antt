@@ -1,5 +1,5 @@
 use mathlib.Core.Path.{sym, ◌∙◌}
-use borrow.Author.Tests.{lt-leb, not-true, not-false}
+use borrow.Author.Tests.{lt-leb}
 use Rattle.pe_frame.specs.Chunk.{read_fields}
 use Rattle.pe_frame.proofs.frame.decode_fields.Goals as goal
 

@@ -2,7 +2,7 @@ use mathlib.Core.Bool.{true, ◌||◌, or-true}
 use mathlib.Core.Path.{◌≡◌, sym, ◌∙◌}
 use Prim.Native.Nat.{◌+◌}
 use native.Mathlib.Omega.{arith}
-use borrow.Author.Tests.{le-leb, lt-leb, eq-eqb, ne_eqb, not-true, not-false}
+use borrow.Author.Tests.{le-leb, lt-leb, eq-eqb, ne_eqb}
 use lib.Dec.{eqb}
 use lib.ListN.{length, take}
 use Rattle.seven_bit.specs.Parts.{part}
@@ -30,8 +30,8 @@ property c = seven_bit_part (9 + (c.u14_at-nh.result)) c.u14_at-nd.result ((c.ar
 first : (c : Joined-chunk_num-ne1) → (eqb c.u14_at-chunk_num.result 1 || eqb ((c.u14_at-nh.result)) 0) ≡ true
 first c =
     elim c.if-chunk_num-ne1.branch [
-      then-chunk_num-ne1+else-nh-ne0 w ↦ rw (eq-eqb _ _ w.if-nh-ne0.false) (or-true (eqb c.u14_at-chunk_num.result 1))
-    | else-chunk_num-ne1 w ↦ rw (eq-eqb _ _ w.if-chunk_num-ne1.false)
+      | then-chunk_num-ne1+else-nh-ne0 w ↦ rw (eq-eqb _ _ w.if-nh-ne0.false) (or-true (eqb c.u14_at-chunk_num.result 1))
+      | else-chunk_num-ne1 w ↦ rw (eq-eqb _ _ w.if-chunk_num-ne1.false)
     ]
 
 pub returns-then-data-property_at : goal.returns-then-data-property_at

@@ -2,7 +2,7 @@ use Prim.Native.Nat.{◌+◌}
 use mathlib.Core.Path.{◌≡◌, sym, ◌∙◌}
 use lib.ListN.{length}
 use mathlib.Core.Bool.{true, false, ◌||◌, or-true}
-use borrow.Author.Tests.{le-leb, lt-leb, eq-eqb, ne_eqb, not-true, not-false}
+use borrow.Author.Tests.{le-leb, lt-leb, eq-eqb, ne_eqb}
 use lib.Dec.{eqb}
 use Rattle.seven_bit.specs.SevenBit.{is_seven_bit}
 use Rattle.seven_bit.specs.Reply.{granted}
@@ -28,8 +28,8 @@ property_bytes c = sym c.all_seven_bit-2.ensures ∙ c.if-not-all_seven_bit-2.fa
 first : (c : Joined-chunk_num-ne1) → (eqb c.args.chunk_num 1 || eqb (length c.args.header.now) 0) ≡ true
 first c =
     elim c.if-chunk_num-ne1.branch [
-      then-chunk_num-ne1+else-header-ne0 w ↦ rw (eq-eqb _ _ w.if-header-ne0.false) (or-true (eqb c.args.chunk_num 1))
-    | else-chunk_num-ne1 w ↦ rw (eq-eqb _ _ w.if-chunk_num-ne1.false)
+      | then-chunk_num-ne1+else-header-ne0 w ↦ rw (eq-eqb _ _ w.if-header-ne0.false) (or-true (eqb c.args.chunk_num 1))
+      | else-chunk_num-ne1 w ↦ rw (eq-eqb _ _ w.if-chunk_num-ne1.false)
     ]
 
 pub returns-then-request_id-gt-REQUEST_ID_MAX : goal.returns-then-request_id-gt-REQUEST_ID_MAX

@@ -3,7 +3,6 @@ use Prim.Native.Nat.{ℕ, ◌+◌}
 use lib.ListN.{length}
 use native.Mathlib.Omega.{arith}
 use mathlib.Core.Bool.{true, false}
-use borrow.Author.Tests.{not-true, not-false}
 use Rattle.seven_bit.specs.Parts.{put}
 use Rattle.seven_bit.specs.Reply.{granted}
 use Rattle.seven_bit.proofs.PartLaws.{put_front, length_put}

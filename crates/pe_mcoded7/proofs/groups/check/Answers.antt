@@ -1,9 +1,7 @@
 use mathlib.Core.Path.{◌≡◌, refl, sym, ◌∙◌}
-use Prim.Native.Nat.{ℕ, ◌-◌}
 use lib.ListN.{drop, drop_of_length-le}
 use native.Mathlib.Omega.{arith}
 use borrow.Author.Rules.{rules}
-use mathlib.Core.List.{List}
 use Rattle.pe_wire.specs.Wire.{encoded_told}
 use Rattle.pe_mcoded7.proofs.AskLaws.{ask_text, check_next, check_end, told_wrote, told_refused}
 use Rattle.seven_bit.specs.Reply.{and_next}

@@ -3,7 +3,6 @@ use mathlib.Core.Bool.{true}
 use Rattle.seven_bit.specs.SevenBit.{is_seven_bit}
 use native.Mathlib.Omega.{arith}
 use Rattle.pe_mcoded7.proofs.AskLaws.{group_short, group_high, group_spare, group_good}
-use borrow.Author.Tests.{not-true, not-false}
 use Rattle.pe_mcoded7.proofs.groups.check_group.Goals as goal
 use Rattle.pe_mcoded7.proofs.groups.check_group.Goals.{Else-not-all_seven_bit}
 

@@ -1,5 +1,5 @@
 use mathlib.Core.Path.{refl, sym, ap, ◌∙◌}
-use Prim.Native.Nat.{ℕ, ◌-◌}
+use Prim.Native.Nat.{ℕ}
 use lib.ListN.{drop_of_length-le, length-set}
 use native.Mathlib.Omega.{arith}
 use borrow.Author.Rules.{rules}

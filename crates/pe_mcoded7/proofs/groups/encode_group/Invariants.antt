@@ -1,5 +1,5 @@
 use mathlib.Core.Path.{◌≡◌}
-use Prim.Native.Nat.{ℕ, ◌+◌, ◌-◌, ◌≤◌, ◌%◌}
+use Prim.Native.Nat.{ℕ, ◌+◌, ◌≤◌, ◌%◌}
 use lib.ListN.{length, drop}
 use mathlib.Core.List.{map}
 use Rattle.seven_bit.specs.Parts.{put}

@@ -1,7 +1,7 @@
 use mathlib.Core.Path.{◌≡◌, sym, ◌∙◌, ap}
 use native.Mathlib.Omega.{arith}
 use mathlib.Core.Bool.{true, false}
-use borrow.Author.Tests.{le-leb, lt-leb, not-true, not-false}
+use borrow.Author.Tests.{le-leb, lt-leb}
 use Rattle.seven_bit.specs.Parts.{put_fit}
 use Rattle.seven_bit.proofs.PartLaws.{fit_front}
 use Rattle.midici_core.specs.Header.{within28, header_of, bytes_of_header, write_header}

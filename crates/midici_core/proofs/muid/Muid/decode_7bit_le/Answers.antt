@@ -1,7 +1,6 @@
 use mathlib.Core.Path.{◌≡◌, sym, ◌∙◌, ap}
 use borrow.Author.Rules.{rules}
 use mathlib.Core.Bool.{true, false}
-use borrow.Author.Tests.{not-true, not-false}
 use Rattle.seven_bit.specs.Reply.{granted}
 use Rattle.seven_bit.specs.SevenBit.{is_seven_bit}
 use Rattle.midici_core.specs.Muid.{read_muid}

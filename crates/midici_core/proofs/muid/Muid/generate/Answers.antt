@@ -1,5 +1,4 @@
 use mathlib.Core.Path.{refl, sym, ◌∙◌}
-use Prim.Native.Nat.{◌-◌}
 use borrow.Author.Rules.{rules}
 use Rattle.midici_core.proofs.MuidLaws.{first_here, first_next, first_none}
 use Rattle.midici_core.proofs.muid.Muid.generate.Goals as goal

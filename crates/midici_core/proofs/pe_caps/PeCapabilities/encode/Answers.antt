@@ -4,7 +4,7 @@ use lib.ListN.{length, take}
 use native.Mathlib.Omega.{arith}
 use mathlib.Core.Bool.{true, false}
 use mathlib.Core.List.{[], ◌∷◌, ◌++◌}
-use borrow.Author.Tests.{le-leb, lt-leb, not-true, not-false}
+use borrow.Author.Tests.{le-leb, lt-leb}
 use Rattle.seven_bit.specs.Parts.{put}
 use Rattle.seven_bit.specs.SevenBit.{is_seven_bit}
 use Rattle.seven_bit.proofs.PartLaws.{put_front, length_put}

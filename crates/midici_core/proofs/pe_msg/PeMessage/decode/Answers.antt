@@ -1,6 +1,5 @@
 use mathlib.Core.Path.{◌≡◌, sym, ◌∙◌}
 use native.Mathlib.Omega.{arith}
-use borrow.Author.Tests.{not-true, not-false}
 use Rattle.seven_bit.specs.Reply.{granted}
 use Rattle.midici_core.specs.Header.{read_header, header_of}
 use Rattle.midici_core.specs.Message.{read_message}

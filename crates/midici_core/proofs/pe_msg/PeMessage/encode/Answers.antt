@@ -4,7 +4,7 @@ use lib.ListN.{length, length-append}
 use native.Mathlib.Omega.{arith}
 use mathlib.Core.Bool.{true, false}
 use mathlib.Core.List.{◌++◌}
-use borrow.Author.Tests.{le-leb, lt-leb, not-true, not-false}
+use borrow.Author.Tests.{le-leb, lt-leb}
 use Rattle.seven_bit.proofs.PartLaws.{put_front, length_put}
 use Rattle.seven_bit.proofs.ReplyLaws.{wrote}
 use Rattle.midici_core.specs.Header.{within28, header_of, bytes_of_header}
