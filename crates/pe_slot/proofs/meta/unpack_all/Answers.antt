@@ -1,10 +1,6 @@
-use Rattle.std.proofs.Common.{◌≡◌, ◌-◌, length, refl, ◌∙◌, arith, length-set, rules}
-use lib.Seq.{take-length}
+use Rattle.std.proofs.Common.{arith, length-set}
 use Rattle.pe_slot.proofs.MetaLaws.{unpacked_more}
 use Rattle.pe_slot.proofs.meta.unpack_all.Goals as goal
-
-pub loop-i-init : goal.loop-i-init
-loop-i-init c = (omega arith, search rules, refl)
 
 pub loop-i-preserved : goal.loop-i-preserved
 loop-i-preserved c =
@@ -12,10 +8,3 @@ loop-i-preserved c =
     let n = c.loop-i.invariant.1 in
     let m = c.requires in
     (omega arith, simp length-set n, rw c.unpack.ensures (unpacked_more c.loop-i.table index c.loop-i.i (omega arith) (omega arith) c.loop-i.invariant.2))
-
-pub returns : goal.returns
-returns c =
-    let index = c.args.index.now in
-    let n = c.loop-i.invariant.0 in
-    let e : c.loop-i.i ≡ length index = omega arith in
-    rw e at c.loop-i.invariant.2 ∙ take-length index

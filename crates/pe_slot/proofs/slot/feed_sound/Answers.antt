@@ -9,9 +9,6 @@ use Rattle.pe_slot.proofs.slot.feed_sound.Goals.{Start}
 reaching : (s : Start) → Reaching s.args.words.now s.args.index.now s.args.header.now s.args.arena.now ((chunk_from (slot_of s.args.words.now).request_id s.args.chunk_header.now s.args.num_chunks s.args.chunk_num s.args.property.now)) s.args.held s.args.out_header.now s.args.out_body.now
 reaching s = record { ready = s.requires.ready; named = (let f = s.ranges in let g = s.well_formed in omega arith); short = s.requires.property_len_bound.0; holding = s.requires.property_len_bound.1 }
 
-pub take_header-requires : goal.take_header-requires
-take_header-requires c = let r = c.requires.ready in (r.nine, r.head)
-
 pub returns-in-No : goal.returns-in-No
 returns-in-No c =
     header_no (reaching (goal.at.returns-in-No c).Start) c.take_header.ensures (ap asked_told c.in-No.is)

@@ -1,6 +1,5 @@
-use Rattle.std.proofs.Common.{sym, refl, ◌∙◌, arith, length-take-le}
+use Rattle.std.proofs.Common.{refl, ◌∙◌}
 use Rattle.pe_slot.specs.declared.records.Joined.{Joined}
-use Rattle.pe_slot.specs.Memory.{slot_of}
 use Rattle.pe_slot.proofs.FeedLaws.{finish_headless, finish_countless, finish_missing, finish_whole}
 use Rattle.pe_slot.proofs.OrderJoinLaws.{join_short}
 use Rattle.pe_slot.proofs.SlotWords.{close_nine}
@@ -22,24 +21,11 @@ returns-then-len-count c =
     finish_missing a.words.now a.index.now a.header.now a.arena.now a.out_header.now a.out_body.now c.if-words-eq0.false c.if-count-eq0.false
     {r = Joined.Missing} (join_short _ a.index.now a.arena.now a.out_body.now _ c.requires.held c.if-len-count.true) refl
 
-pub join-requires : goal.join-requires
-join-requires c =
-    let k = length-take-le (slot_of c.args.words.now).index_len c.args.index.now c.requires.held in
-    let held = c.requires.held in
-    let records = c.requires.records in
-    let body = c.requires.body in
-    let room = c.requires.body_room in
-    (c.if-len-count.false, held, record { few = omega arith; ends = c.requires.ends; bytes = body; room = omega arith })
-
 pub returns-in_default : goal.returns-in_default
 returns-in_default c =
     let a = c.args in
     finish_missing a.words.now a.index.now a.header.now a.arena.now a.out_header.now a.out_body.now
     c.if-words-eq0.false c.if-count-eq0.false c.join.ensures c.in_default.is
-
-pub slice_bounds-copy_in-end : goal.slice_bounds-copy_in-end
-slice_bounds-copy_in-end c =
-    sym (length-take-le _ _ c.requires.head)
 
 pub returns : goal.returns
 returns c =

@@ -1,17 +1,11 @@
-use Rattle.std.proofs.Common.{not, sym, ap, ◌∙◌, arith}
+use Rattle.std.proofs.Common.{not, ap}
 use Rattle.pe_slot.specs.Memory.{slot_of}
-use Rattle.pe_slot.proofs.FeedAsked.{bounded_held, unbounded, unlaid, sound, damaged, sound_held}
+use Rattle.pe_slot.proofs.FeedAsked.{unbounded, unlaid, sound, damaged, sound_held}
 use Rattle.pe_slot.proofs.slot.soundness_of.Goals as goal
 
 pub returns-then-not-is_bounded : goal.returns-then-not-is_bounded
 returns-then-not-is_bounded c =
     damaged _ _ _ _ _ (unbounded _ _ _ ((slot_of c.args.words.now)) c.args.index.now c.is_bounded.ensures (ap not c.if-not-is_bounded.true))
-
-pub scan-pass-requires : goal.scan-pass-requires
-scan-pass-requires c =
-    let held = bounded_held _ _ _ ((slot_of c.args.words.now)) (sym c.is_bounded.ensures ∙ c.if-not-is_bounded.false) in
-    let records = c.requires.1 in
-    (held, omega arith)
 
 pub returns-then-not-ends_at : goal.returns-then-not-ends_at
 returns-then-not-ends_at c =

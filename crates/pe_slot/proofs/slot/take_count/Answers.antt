@@ -8,9 +8,6 @@ pub returns-then-num_chunks-eq0 : goal.returns-then-num_chunks-eq0
 unfolding take_count
 returns-then-num_chunks-eq0 c = rw (eq-eqb _ _ c.if-known-eq0.true, eq-eqb _ _ c.if-num_chunks-eq0.true)
 
-pub is_up_to-requires : goal.is_up_to-requires
-is_up_to-requires c = c.requires.1
-
 pub returns-then-not-is_up_to : goal.returns-then-not-is_up_to
 unfolding take_count
 returns-then-not-is_up_to c =

@@ -1,4 +1,4 @@
-use Rattle.std.proofs.Common.{sym, ◌∙◌, arith, length-set, length-take-le, eq-eqb, ne_eqb, le-leb}
+use Rattle.std.proofs.Common.{sym, ◌∙◌, eq-eqb, ne_eqb, le-leb}
 use borrow.Author.Tests.{lt-leb}
 use Rattle.seven_bit.proofs.PartLaws.{fit_front}
 use Rattle.pe_slot.specs.Steps.{take_header}
@@ -12,22 +12,11 @@ pub returns-then-chunk_header-header : goal.returns-then-chunk_header-header
 unfolding take_header
 returns-then-chunk_header-header c = rw (eq-eqb _ _ c.if-chunk_num-ne1.false, lt-leb _ _ c.if-chunk_header-header.true)
 
-pub bounds-words-6 : goal.bounds-words-6
-bounds-words-6 c = simp length-set (omega arith)
-
 pub returns-then-words-eq0 : goal.returns-then-words-eq0
 unfolding take_header
 returns-then-words-eq0 c =
     let a = c.args in
     rw (eq-eqb _ _ c.if-chunk_num-ne1.false, le-leb _ _ c.if-chunk_header-header.false, eq-eqb _ _ c.if-words-eq0.true, c.copy_in.ensures ∙ fit_front a.header.now a.chunk_header.now c.if-chunk_header-header.false)
-
-pub slice_bounds-same-end : goal.slice_bounds-same-end
-slice_bounds-same-end c =
-    c.requires.1
-
-pub slice_bounds-same-end-2 : goal.slice_bounds-same-end-2
-slice_bounds-same-end-2 c =
-    sym (length-take-le _ _ c.requires.1)
 
 pub returns-then-same : goal.returns-then-same
 unfolding take_header

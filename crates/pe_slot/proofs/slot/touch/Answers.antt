@@ -1,9 +1,5 @@
-use Rattle.std.proofs.Common.{arith, length-set}
 use Rattle.pe_slot.proofs.SlotWords.{touch_free, touch_open}
 use Rattle.pe_slot.proofs.slot.touch.Goals as goal
-
-pub bounds-words-0-then-words-eq0 : goal.bounds-words-0-then-words-eq0
-bounds-words-0-then-words-eq0 c = simp length-set (omega arith)
 
 pub returns-then-words-eq0 : goal.returns-then-words-eq0
 returns-then-words-eq0 c = let a = c.args in touch_free a.request_id a.moment.now_ms a.moment.tick a.words.now c.requires c.if-words-eq0.true
