@@ -1,9 +1,8 @@
 use mathlib.Core.Path.{sym}
-use Prim.Native.Nat.{ℕ, ◌-◌}
+use Prim.Native.Nat.{◌-◌}
 use native.Mathlib.Omega.{arith}
 use Rattle.pe_reassembler.proofs.TableLaws.{numbers_long}
-use Rattle.pe_reassembler.proofs.CallsSums.{over_none, over_next, over_all}
-use Rattle.pe_reassembler.specs.Calls.{open_count, over_slots}
+use Rattle.pe_reassembler.proofs.CallsSums.{over_none, over_next}
 use Rattle.pe_reassembler.proofs.calls.active_slots.Goals as goal
 
 pub loop-p-init : goal.loop-p-init
@@ -15,16 +14,5 @@ open_slots-total-requires c = let l = numbers_long _ _ c.requires in omega arith
 pub overflow_add-total : goal.overflow_add-total
 overflow_add-total c = let l = numbers_long _ _ c.requires in omega arith
 
-pub overflow_add-p : goal.overflow_add-p
-overflow_add-p c = let l = numbers_long _ _ c.requires in omega arith
-
-pub loop-p-smaller : goal.loop-p-smaller
-loop-p-smaller c = omega arith
-
 pub loop-p-preserved : goal.loop-p-preserved
 loop-p-preserved c = (omega arith, rw (over_next _ _, ← c.loop-p.invariant.1, ← c.open_slots-total.ensures.0), omega arith)
-
-pub returns : goal.returns
-returns c =
-    let numbers = c.args.numbers.now in
-    over_all (over_slots (λ (i s : ℕ). open_count numbers i s)) c.loop-p.invariant.1 c.loop-p.invariant.0 c.loop-p-test.false

@@ -2,7 +2,7 @@ use mathlib.Core.Path.{refl, sym}
 use Prim.Native.Nat.{◌-◌}
 use native.Mathlib.Omega.{arith}
 use borrow.Author.Rules.{rules}
-use Rattle.pe_reassembler.proofs.CallsFresh.{fresh_step, fresh_all}
+use Rattle.pe_reassembler.proofs.CallsFresh.{fresh_step}
 use Rattle.pe_reassembler.specs.Calls.{fresh_peers}
 use Rattle.seven_bit.proofs.PartLaws.{put_none}
 use Rattle.pe_reassembler.proofs.calls.fresh_peers.Goals as goal
@@ -11,18 +11,7 @@ pub loop-p-init : goal.loop-p-init
 unfolding fresh_peers
 loop-p-init c = (omega arith, sym (put_none _ _), refl)
 
-pub slice_bounds-fresh_peer-end : goal.slice_bounds-fresh_peer-end
-slice_bounds-fresh_peer-end c = omega arith
-
-pub loop-p-smaller : goal.loop-p-smaller
-loop-p-smaller c = omega arith
-
 pub loop-p-preserved : goal.loop-p-preserved
 loop-p-preserved c =
     let l = c.loop-p in
     (omega arith, fresh_step c.args.numbers.now l.p c.peer_at-at.ensures (omega arith) l.invariant.1 c.fresh_peer.ensures, search rules)
-
-pub returns : goal.returns
-returns c =
-    let l = c.loop-p in
-    fresh_all c.args.numbers.now l.p c.args.max_peers l.invariant.0 c.loop-p-test.false l.invariant.1

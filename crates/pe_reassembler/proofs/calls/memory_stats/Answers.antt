@@ -10,12 +10,6 @@ returns-then-not-has_numbers c = rw (no c.has_numbers.ensures c.if-not-has_numbe
 pub reserved-requires : goal.reserved-requires
 reserved-requires c = asked_range _ _ (yes c.has_numbers.ensures c.if-not-has_numbers.false-raw)
 
-pub active_bytes-requires : goal.active_bytes-requires
-active_bytes-requires c = yes c.has_numbers.ensures c.if-not-has_numbers.false-raw
-
-pub active_slots-requires : goal.active_slots-requires
-active_slots-requires c = yes c.has_numbers.ensures c.if-not-has_numbers.false-raw
-
 pub returns : goal.returns
 returns c =
     stats_are _ _ (yes c.has_numbers.ensures c.if-not-has_numbers.false-raw) c.reserved.ensures c.active_bytes.ensures c.active_slots.ensures

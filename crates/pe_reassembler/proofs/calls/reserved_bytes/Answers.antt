@@ -6,9 +6,6 @@ pub returns-then-not-in_range : goal.returns-then-not-in_range
 unfolding reserved_call
 returns-then-not-in_range c = rw (no c.in_range.ensures c.if-not-in_range.true-raw)
 
-pub reserved-requires : goal.reserved-requires
-reserved-requires c = yes c.in_range.ensures c.if-not-in_range.false-raw
-
 pub returns : goal.returns
 unfolding reserved_call
 returns c = rw (yes c.in_range.ensures c.if-not-in_range.false-raw, c.reserved.ensures)

@@ -1,10 +1,7 @@
 use native.Mathlib.Omega.{arith}
-use mathlib.Core.Path.{sym, ap, ◌∙◌}
+use mathlib.Core.Path.{sym, ◌∙◌}
 use borrow.Author.Tests.{lt-leb, le-leb}
-use Rattle.pe_frame.specs.declared.frame.ChunkRead.{ChunkRead}
-use Rattle.pe_frame.specs.Chunk.{chunk_told}
 use Rattle.pe_reassembler.specs.Feed.{feed_call}
-use Rattle.pe_reassembler.specs.Steps.{is_refused}
 use Rattle.pe_reassembler.proofs.TableLaws.{yes, no}
 use Rattle.pe_reassembler.proofs.FeedLaws.{chunk_as}
 use Rattle.pe_reassembler.proofs.feed.feed.Goals as goal
@@ -17,15 +14,9 @@ pub returns-then-peer-gt-MASK_28 : goal.returns-then-peer-gt-MASK_28
 unfolding feed_call
 returns-then-peer-gt-MASK_28 c = rw (yes c.has_all.ensures c.if-not-has_all.false-raw, lt-leb c.args.peer 0x0FFFFFFF (omega (arith, c.if-peer-gt-MASK_28.true)))
 
-pub refusal_of-requires : goal.refusal_of-requires
-refusal_of-requires c = ap (λ (x : ChunkRead). is_refused (chunk_told x)) c.in_default.is
-
 pub returns-in_default : goal.returns-in_default
 unfolding feed_call
 returns-in_default c = rw (yes c.has_all.ensures c.if-not-has_all.false-raw, le-leb c.args.peer 0x0FFFFFFF (omega (arith, c.if-peer-gt-MASK_28.false)), sym (c.refusal_of.ensures ∙ c.decode_fields-read.ensures))
-
-pub at_table-requires : goal.at_table-requires
-at_table-requires c = record { out_body_value = yes c.has_all.ensures c.if-not-has_all.false-raw; data_value = chunk_as c.decode_fields-read.ensures c.in-Value.is }
 
 pub returns : goal.returns
 unfolding feed_call

@@ -1,10 +1,7 @@
-use mathlib.Core.Path.{sym, ap, ◌∙◌}
+use mathlib.Core.Path.{sym, ◌∙◌}
 use native.Mathlib.Omega.{arith}
 use Rattle.seven_bit.proofs.PartLaws.{rest}
-use Rattle.midici_core.specs.declared.pe_msg.MessageRead.{MessageRead}
-use Rattle.midici_core.specs.Message.{message_told}
 use Rattle.pe_reassembler.specs.Feed.{message_call}
-use Rattle.pe_reassembler.specs.Steps.{is_refused}
 use Rattle.pe_reassembler.proofs.TableLaws.{yes, no}
 use Rattle.pe_reassembler.proofs.FeedLaws.{message_as, message_long, message_fed}
 use Rattle.pe_reassembler.proofs.feed.feed_message.Goals as goal
@@ -12,9 +9,6 @@ use Rattle.pe_reassembler.proofs.feed.feed_message.Goals as goal
 pub returns-then-not-has_all : goal.returns-then-not-has_all
 unfolding message_call
 returns-then-not-has_all c = rw (no c.has_all.ensures c.if-not-has_all.true-raw)
-
-pub ci_refusal_of-requires : goal.ci_refusal_of-requires
-ci_refusal_of-requires c = ap (λ (x : MessageRead). is_refused (message_told x)) c.in_default.is
 
 pub returns-in_default : goal.returns-in_default
 unfolding message_call

@@ -2,24 +2,15 @@ use mathlib.Core.Path.{sym, ap, ◌∙◌}
 use Prim.Native.Nat.{◌-◌}
 use native.Mathlib.Omega.{arith}
 use mathlib.Core.Bool.{not}
-use Rattle.pe_reassembler.proofs.TableLaws.{start, here, next, nowhere, numbers_long}
+use Rattle.pe_reassembler.proofs.TableLaws.{here, next, nowhere, numbers_long}
 use Rattle.pe_reassembler.specs.Table.{is_bound}
 use Rattle.pe_reassembler.proofs.table.record_unbound.Goals as goal
-
-pub loop-p-init : goal.loop-p-init
-loop-p-init c = start _ _
 
 pub is_bound-requires : goal.is_bound-requires
 is_bound-requires c = let l = numbers_long _ _ c.requires in omega arith
 
 pub returns-then-not-is_bound : goal.returns-then-not-is_bound
 returns-then-not-is_bound c = here c.loop-p.invariant c.loop-p-test.true (ap not (sym c.is_bound.ensures) ∙ c.if-not-is_bound.true-raw)
-
-pub overflow_add-p : goal.overflow_add-p
-overflow_add-p c = let l = numbers_long _ _ c.requires in omega arith
-
-pub loop-p-smaller : goal.loop-p-smaller
-loop-p-smaller c = omega arith
 
 pub loop-p-preserved : goal.loop-p-preserved
 loop-p-preserved c = next c.loop-p.invariant c.loop-p-test.true (ap not (sym c.is_bound.ensures) ∙ c.if-not-is_bound.false-raw)

@@ -1,25 +1,12 @@
 use mathlib.Core.Path.{sym, ◌∙◌}
 use Prim.Native.Nat.{◌-◌}
-use native.Mathlib.Omega.{arith}
-use Rattle.pe_reassembler.proofs.TableLaws.{start, here, next, nowhere}
+use Rattle.pe_reassembler.proofs.TableLaws.{here, next, nowhere}
 use Rattle.pe_reassembler.specs.Table.{has_id, slot_open}
 use Rattle.pe_reassembler.proofs.table.slot_open.Goals as goal
-
-pub loop-s-init : goal.loop-s-init
-loop-s-init c = start _ _
-
-pub has_id-requires : goal.has_id-requires
-has_id-requires c = omega arith
 
 pub returns-then-has_id : goal.returns-then-has_id
 unfolding slot_open
 returns-then-has_id c = here c.loop-s.invariant c.loop-s-test.true (sym c.has_id.ensures ∙ c.if-has_id.true)
-
-pub overflow_add-s : goal.overflow_add-s
-overflow_add-s c = omega arith
-
-pub loop-s-smaller : goal.loop-s-smaller
-loop-s-smaller c = omega arith
 
 pub loop-s-preserved : goal.loop-s-preserved
 loop-s-preserved c = next c.loop-s.invariant c.loop-s-test.true (sym c.has_id.ensures ∙ c.if-has_id.false)
