@@ -2,7 +2,6 @@ use mathlib.Core.Path.{◌≡◌, sym, ap, ◌∙◌}
 use Prim.Native.Nat.{ℕ, ◌+◌, ◌-◌, ◌/◌}
 use lib.ListN.{length}
 use native.Mathlib.Omega.{arith}
-use borrow.Author.Tests.{not-true, not-false}
 use Rattle.pe_chunker.specs.Cut.{cut_count, body_pieces}
 use Rattle.pe_chunker.proofs.CutLaws.{later_between}
 use Rattle.pe_chunker.proofs.PieceLaws.{pieces_count}
@@ -14,10 +13,10 @@ use Rattle.pe_chunker.proofs.chunk_count.Goals.{After-chunks_for-chunks, Else-no
 
 -- the header's bytes are up to 7F, and so are the body's
 low : (c : Else-not-all_seven_bit) → is_seven_bit c.args.header.now ≡ true
-low c = sym c.all_seven_bit.ensures ∙ not-false _ c.if-not-all_seven_bit.false-raw
+low c = sym c.all_seven_bit.ensures ∙ c.if-not-all_seven_bit.false
 
 body-low : (c : Else-not-all_seven_bit-2) → is_seven_bit c.args.body.now ≡ true
-body-low c = sym c.all_seven_bit-2.ensures ∙ not-false _ c.if-not-all_seven_bit-2.false-raw
+body-low c = sym c.all_seven_bit-2.ensures ∙ c.if-not-all_seven_bit-2.false
 
 -- the chunks that were counted are the pieces
 counted : (c : After-chunks_for-chunks)
@@ -35,12 +34,12 @@ returns-then-request_id-gt-REQUEST_ID_MAX c = sym (cut_id _ _ _ _ _ c.if-request
 
 pub returns-then-not-all_seven_bit : goal.returns-then-not-all_seven_bit
 unfolding cut_count
-returns-then-not-all_seven_bit c = sym (cut_high _ _ _ _ _ c.if-request_id-gt-REQUEST_ID_MAX.false (sym c.all_seven_bit.ensures ∙ not-true _ c.if-not-all_seven_bit.true-raw))
+returns-then-not-all_seven_bit c = sym (cut_high _ _ _ _ _ c.if-request_id-gt-REQUEST_ID_MAX.false (sym c.all_seven_bit.ensures ∙ c.if-not-all_seven_bit.true))
 
 pub returns-then-not-all_seven_bit-2 : goal.returns-then-not-all_seven_bit-2
 unfolding cut_count
 returns-then-not-all_seven_bit-2 c =
-    sym (cut_high_body _ _ _ _ _ c.if-request_id-gt-REQUEST_ID_MAX.false (low (goal.at.returns-then-not-all_seven_bit-2 c).Else-not-all_seven_bit) (sym c.all_seven_bit-2.ensures ∙ not-true _ c.if-not-all_seven_bit-2.true-raw))
+    sym (cut_high_body _ _ _ _ _ c.if-request_id-gt-REQUEST_ID_MAX.false (low (goal.at.returns-then-not-all_seven_bit-2 c).Else-not-all_seven_bit) (sym c.all_seven_bit-2.ensures ∙ c.if-not-all_seven_bit-2.true))
 
 pub returns-then-header-gt-MAX_HEADER_BYTES : goal.returns-then-header-gt-MAX_HEADER_BYTES
 unfolding cut_count

@@ -2,7 +2,6 @@ use mathlib.Core.Bool.{true}
 use mathlib.Core.Path.{◌≡◌, sym, ◌∙◌}
 use lib.ListN.{length}
 use native.Mathlib.Omega.{arith}
-use borrow.Author.Tests.{not-true, not-false}
 use Rattle.pe_stage.specs.Stage.{is_inside}
 use Rattle.pe_stage.proofs.CutLaws.{inside_told, chunk_outside, counting_lent}
 use Rattle.pe_stage.proofs.cut.chunk_in.Goals as goal
@@ -10,12 +9,12 @@ use Rattle.pe_stage.proofs.cut.chunk_in.Goals.{Else-not-is_inside}
 
 -- the list is inside
 inside : (c : Else-not-is_inside) → is_inside c.args.buffer.now c.args.list ≡ true
-inside c = sym c.is_inside.ensures ∙ not-false _ c.if-not-is_inside.false-raw
+inside c = sym c.is_inside.ensures ∙ c.if-not-is_inside.false
 
 pub returns-then-not-is_inside : goal.returns-then-not-is_inside
 returns-then-not-is_inside c =
     let a = c.args in
-    rw (chunk_outside _ _ a.chunk_num (length a.out.now) (sym c.is_inside.ensures ∙ not-true _ c.if-not-is_inside.true-raw))
+    rw (chunk_outside _ _ a.chunk_num (length a.out.now) (sym c.is_inside.ensures ∙ c.if-not-is_inside.true))
 
 pub overflow_add-header_end : goal.overflow_add-header_end
 overflow_add-header_end c = omega (arith, inside_told _ _ (inside c))

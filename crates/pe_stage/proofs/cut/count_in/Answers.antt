@@ -1,7 +1,6 @@
 use mathlib.Core.Bool.{true}
 use mathlib.Core.Path.{◌≡◌, sym, ◌∙◌}
 use native.Mathlib.Omega.{arith}
-use borrow.Author.Tests.{not-true, not-false}
 use Rattle.pe_stage.specs.Stage.{is_inside}
 use Rattle.pe_stage.proofs.CutLaws.{inside_told, count_outside, count_lent}
 use Rattle.pe_stage.proofs.cut.count_in.Goals as goal
@@ -9,10 +8,10 @@ use Rattle.pe_stage.proofs.cut.count_in.Goals.{Else-not-is_inside}
 
 -- the list is inside
 inside : (c : Else-not-is_inside) → is_inside c.args.buffer.now c.args.list ≡ true
-inside c = sym c.is_inside.ensures ∙ not-false _ c.if-not-is_inside.false-raw
+inside c = sym c.is_inside.ensures ∙ c.if-not-is_inside.false
 
 pub returns-then-not-is_inside : goal.returns-then-not-is_inside
-returns-then-not-is_inside c = sym (count_outside _ _ (sym c.is_inside.ensures ∙ not-true _ c.if-not-is_inside.true-raw))
+returns-then-not-is_inside c = sym (count_outside _ _ (sym c.is_inside.ensures ∙ c.if-not-is_inside.true))
 
 pub overflow_add-header_end : goal.overflow_add-header_end
 overflow_add-header_end c = omega (arith, inside_told _ _ (inside c))
