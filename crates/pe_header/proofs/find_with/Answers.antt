@@ -16,7 +16,7 @@ the_tree : (c : Else-walk-ne-DONE)
 the_tree c =
     let a = c.args in
     tree_read a.table.now c.requires.0 a.header.now a.name.now a.names.now c.read_members-walk.new.names c.read_members-walk.result c.requires.2
-    c.names-1.given c.read_members-walk.ensures c.if-walk-ne-DONE.false
+    c.read_members-walk.auto.names (c.read_members-walk.ensures.state_value, c.read_members-walk.ensures.all_read) c.if-walk-ne-DONE.false
 
 pub returns-then-walk-ne-DONE : goal.returns-then-walk-ne-DONE
 returns-then-walk-ne-DONE c =

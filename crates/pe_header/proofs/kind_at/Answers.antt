@@ -1,5 +1,5 @@
 use mathlib.Core.Path.{sym, ap}
-use borrow.Author.Tests.{ne_eqb}
+use native.Mathlib.Omega.{arith}
 use Rattle.pe_header.specs.Members.{kind_at}
 use Rattle.pe_header.proofs.kind_at.Goals as goal
 
@@ -26,5 +26,4 @@ returns-in-20 c = sym (ap kind_at c.in-20.is)
 pub returns-in_default : goal.returns-in_default
 unfolding kind_at
 returns-in_default c =
-    let r = c.in-10.rest in
-    rw (ne_eqb _ _ r.0.0.0.0.1, ne_eqb _ _ r.0.0.0.1, ne_eqb _ _ r.0.0.1, ne_eqb _ _ r.0.1, ne_eqb _ _ r.1)
+    grind arith

@@ -1,5 +1,4 @@
 use mathlib.Core.Path.{refl, ◌∙◌}
-use Prim.Native.Nat.{◌-◌}
 use native.Mathlib.Omega.{arith}
 use borrow.Author.Rules.{rules}
 use Rattle.syx.proofs.WalkLaws.{all_walked}
@@ -17,7 +16,7 @@ pub loop-tally-preserved : goal.loop-tally-preserved
 loop-tally-preserved c =
     let l = c.loop-tally in
     let r = c.next_message-tally in
-    (search rules, search rules, r.ensures.0.1, r.ensures.0.2, r.ensures.0.3, r.ensures.1 ∙ l.invariant.5)
+    (search rules, search rules, r.ensures.from_lt_from.1, r.ensures.from_lt_from.2, r.ensures.from_lt_from.3, r.ensures.lengths_after ∙ l.invariant.5)
 
 pub returns : goal.returns
 returns c =

@@ -1,6 +1,4 @@
 use mathlib.Core.Path.{refl}
-use mathlib.Core.Bool.{true}
-use Prim.Native.Nat.{◌-◌}
 use native.Mathlib.Omega.{arith}
 use Rattle.pe_header.proofs.NumberLaws.{next_digit, too_large, all_read}
 use borrow.Author.Rules.{rules}
@@ -10,7 +8,7 @@ pub loop-i-init : goal.loop-i-init
 loop-i-init c = (omega arith, λ ds rest a w u. record { left = ds; digits = a; there = w; until = u; same = refl })
 
 pub returns-then-n-gt65535 : goal.returns-then-n-gt65535
-returns-then-n-gt65535 c =
+returns-then-n-gt65535 c ds rest a w u =
     let l = c.loop-i in
     let text = c.args.text.now in
     let more = next_digit text c.args.to l.n l.i ds rest (l.invariant.1 ds rest a w u) (search rules) (search rules) in
@@ -26,6 +24,6 @@ loop-i-preserved c =
     )
 
 pub returns : goal.returns
-returns c =
+returns c ds rest a w u =
     let l = c.loop-i in
     all_read c.args.text.now c.args.to l.n l.i ds rest (l.invariant.1 ds rest a w u) (search rules) l.invariant.0

@@ -1,5 +1,5 @@
 use mathlib.Core.Path.{◌≡◌, refl, sym, ap, ◌∙◌, subst}
-use Prim.Native.Nat.{ℕ, ◌+◌, ◌-◌, ◌≤◌}
+use Prim.Native.Nat.{ℕ, ◌+◌, ◌≤◌}
 use native.Mathlib.Omega.{arith}
 use lib.ListN.{length, drop}
 use Rattle.flat_json.specs.declared.Spot.{Spot}
@@ -43,12 +43,12 @@ loop-walk-preserved c =
     let l = c.loop-walk in
     let n = c.next_member-walk in
     let e = n.ensures in (
-      e.0.1,
-      e.0.2,
-      λ h. (let x = l.invariant.2 c.loop-walk-test.true in let y = e.0.0 in omega arith),
-      l.invariant.3 ∙ e.1.0,
-      c.names-1.given ∙ l.invariant.4,
-      λ from es room s. e.1.1 from es (subst (λ (k : ℕ). length es ≤ k) (sym l.invariant.4) room) (l.invariant.5 from es room s),
+      e.place_lt_place.1,
+      e.place_lt_place.2,
+      λ h. (let x = l.invariant.2 c.loop-walk-test.true in let y = e.place_lt_place.0 in omega arith),
+      l.invariant.3 ∙ e.text_value,
+      c.next_member-walk.auto.names ∙ l.invariant.4,
+      λ from es room s. e.by_index from es (subst (λ (k : ℕ). length es ≤ k) (sym l.invariant.4) room) (l.invariant.5 from es room s),
     )
 
 pub returns : goal.returns
@@ -57,8 +57,8 @@ returns c =
     let a = c.args in
     let h = c.loop-walk-test.false in record {
       state_value = sym (l.invariant.3 ∙ run_end a.table.now a.text.now l.walk.at.state l.walk.at.place (search rules));
-      all_read = λ t g e room. finished a.text.now a.name.now (length t + 1) (list t.inside) l.names l.walk (search rules)
-          (l.invariant.5 (length t + 1) (list t.inside) room
+      all_read = λ t g e room. finished a.text.now a.name.now (length t.before + 1) (list t.inside) l.names l.walk (search rules)
+          (l.invariant.5 (length t.before + 1) (list t.inside) room
           (started a.table.now c.requires.0 a.text.now a.name.now a.names.now t g e c.reach.result
           c.reach.ensures));
     }

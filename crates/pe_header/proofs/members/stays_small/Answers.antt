@@ -14,4 +14,4 @@ returns-then-not-small c =
 pub returns : goal.returns
 returns c =
     let e : c.args.small ≡ true = not-false _ c.if-not-small.false-raw in
-    record { value = λ n. absurd (n c.if-state-ne-IN_NUMBER.false); value_2 = λ s ds rest a w u. rw e (c.fits2.ensures ds rest a w u) }
+    record { value = λ n. absurd (n c.if-state-ne-IN_NUMBER.false); value_2 = λ s ds rest a w u. rw e (c.fits.ensures ds rest a w u) }

@@ -40,8 +40,9 @@ pub returns-then-state-eq-IN_NUMBER : goal.returns-then-state-eq-IN_NUMBER
 returns-then-state-eq-IN_NUMBER c =
     let first = c.turn-first.result in
     let at = c.turn-at.result in
-    told _ _ _ _ (steps (goal.at.returns-then-state-eq-IN_NUMBER c).After-turn-first) (bare first.state first.place (at.place - 1) at) (after-number (goal.at.returns-then-state-eq-IN_NUMBER c).After-turn-at) (omega arith)
-    (read_number _ _ first at c.if-state-eq-IN_NUMBER.true c.turn-at.ensures)
+    let p = told _ _ _ _ (steps (goal.at.returns-then-state-eq-IN_NUMBER c).After-turn-first) (bare first.state first.place (at.place - 1) at) (after-number (goal.at.returns-then-state-eq-IN_NUMBER c).After-turn-at) (omega arith)
+    (read_number _ _ first at c.if-state-eq-IN_NUMBER.true c.turn-at.ensures) in
+    record { text_value = p.0; place_in_bounds = p.1.0; place_lt_place = p.1.1.0; read_right = p.1.1.1 }
 
 pub overflow_sub-result-then-state-eq-IN_STRING : goal.overflow_sub-result-then-state-eq-IN_STRING
 overflow_sub-result-then-state-eq-IN_STRING c =
@@ -54,8 +55,9 @@ pub returns-then-state-eq-IN_STRING : goal.returns-then-state-eq-IN_STRING
 returns-then-state-eq-IN_STRING c =
     let first = c.turn-first.result in
     let at = c.reach-at.result in
-    told _ _ _ _ (steps (goal.at.returns-then-state-eq-IN_STRING c).After-turn-first) (quoted first.state first.place (at.place - 1) at) (after-other (goal.at.returns-then-state-eq-IN_STRING c).After-reach-at) (omega arith)
-    (read_string _ _ first at c.if-state-eq-IN_NUMBER.false c.if-state-eq-IN_STRING.true c.reach-at.ensures)
+    let p = told _ _ _ _ (steps (goal.at.returns-then-state-eq-IN_STRING c).After-turn-first) (quoted first.state first.place (at.place - 1) at) (after-other (goal.at.returns-then-state-eq-IN_STRING c).After-reach-at) (omega arith)
+    (read_string _ _ first at c.if-state-eq-IN_NUMBER.false c.if-state-eq-IN_STRING.true c.reach-at.ensures) in
+    record { text_value = p.0; place_in_bounds = p.1.0; place_lt_place = p.1.1.0; read_right = p.1.1.1 }
 
 pub overflow_sub-result-2 : goal.overflow_sub-result-2
 overflow_sub-result-2 c = (after-other (goal.at.overflow_sub-result-2 c).After-reach-at).begun
@@ -64,5 +66,6 @@ pub returns : goal.returns
 returns c =
     let first = c.turn-first.result in
     let at = c.reach-at.result in
-    told _ _ _ _ (steps (goal.at.returns c).After-turn-first) (bare first.state first.place at.place at) (after-other (goal.at.returns c).After-reach-at) (omega arith)
-    (read_other _ _ first at c.if-state-eq-IN_NUMBER.false c.if-state-eq-IN_STRING.false c.reach-at.ensures)
+    let p = told _ _ _ _ (steps (goal.at.returns c).After-turn-first) (bare first.state first.place at.place at) (after-other (goal.at.returns c).After-reach-at) (omega arith)
+    (read_other _ _ first at c.if-state-eq-IN_NUMBER.false c.if-state-eq-IN_STRING.false c.reach-at.ensures) in
+    record { text_value = p.0; place_in_bounds = p.1.0; place_lt_place = p.1.1.0; read_right = p.1.1.1 }

@@ -15,7 +15,7 @@ returns-then-step-eq-IN_NAME c =
     let right = c.requires.0 in
     let u = c.short_unit.ensures in
     let t = sym c.step.ensures ∙ c.if-step-eq-IN_NAME.true in
-    record { at_le_next = search rules; escape_at = short_there a.table.now right a.text.now a.at _ u.0 u.1 t }
+    record { at_le_next = search rules; escape_at = short_there a.table.now right a.text.now a.at _ u.upper_bound u.value t }
 
 pub returns-then-text-at-lt5 : goal.returns-then-text-at-lt5
 returns-then-text-at-lt5 c =

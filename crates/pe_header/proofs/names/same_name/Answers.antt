@@ -1,11 +1,10 @@
 use mathlib.Core.Bool.{true, false}
-use Prim.Native.Nat.{◌-◌}
 use native.Mathlib.Omega.{arith}
 use Rattle.pe_header.proofs.NameLaws.{name_inside, same_not, same_over, same_on}
 use Rattle.pe_header.proofs.names.same_name.Goals as goal
 
 pub loop-i-init : goal.loop-i-init
-loop-i-init c = h
+loop-i-init c = λ t h. h
 
 pub returns-then-text-j : goal.returns-then-text-j
 returns-then-text-j c =

@@ -1,37 +1,23 @@
-use mathlib.Core.Bool.{Bool, true, false}
-use mathlib.Core.List.{List}
-use mathlib.Core.Path.{◌≡◌, sym, ◌∙◌}
-use Prim.Native.Nat.{ℕ, ◌-◌, ◌≤◌, ◌<◌}
-use lib.ListN.{length, take, get_or}
-use lib.Seq.{slice}
+use mathlib.Core.Bool.{true, false}
+use mathlib.Core.Path.{sym, ◌∙◌}
+use Prim.Native.Nat.{◌-◌, ◌≤◌, ◌<◌}
+use lib.ListN.{length, get_or}
 use native.Mathlib.Omega.{arith}
 use borrow.Author.Rules.{rules}
-use Rattle.flat_json.specs.Tree.{Piece}
-use Rattle.pe_header.specs.Find.{units}
-use Rattle.pe_header.specs.Names.{NameAt, print_of, IsAmong}
 use Rattle.pe_header.proofs.EntryLaws.{seen_here, other_name, others_passed, seen_none}
+use Rattle.pe_header.proofs.names.seen.Invariants.{Whole}
 use Rattle.pe_header.proofs.names.seen.Goals as goal
+use Rattle.pe_header.proofs.names.seen.Goals.{After-next_equal-at}
 
--- what holds of the names from j up to k holds of all before k
-abbrev Whole : List ℕ → List ℕ → List ℕ → ℕ → ℕ → ℕ → Type 0
-Whole text names prints k print j =
-    (ps : List Piece) → NameAt text (get_or names k 0) ps → print ≡ print_of (units ps) → (t : Bool)
-    → IsAmong text (slice j k names) (slice j k prints) ps t → IsAmong text (take k names) (take k prints) ps t
-
-abbrev start : tie.After-next-equal invariant-loop decreases-loop → tie.Start invariant-loop decreases-loop
-start c = c.before.before.before.before.before.before
-
-passed : (c : tie.After-next-equal invariant-loop decreases-loop)
-    → Whole (start c).args.text.now (start c).args.names.now (start c).args.prints.now (start c).args.k
-    (start c).args.print c.next-equal.result
+passed : (c : After-next_equal-at)
+    → Whole c.args.text.now c.args.names.now c.args.prints.now c.args.k c.args.print c.next_equal-at.result
 passed c ps m e t h =
-    let s = start c in
-    let a = s.args in
-    let l = c.before.before.loop in
-    let n = c.next-equal in
+    let a = c.args in
+    let l = c.loop-j in
+    let n = c.next_equal-at in
     let room : a.k ≤ length a.names.now = omega arith in
     l.invariant.1 ps m e t
-    (others_passed a.text.now a.names.now a.prints.now a.k room s.pre.2 ps a.print e
+    (others_passed a.text.now a.names.now a.prints.now a.k room c.requires.2 ps a.print e
     (n.result - l.j) l.j n.result (omega arith) n.ensures.1 n.ensures.2 t h)
 
 pub loop-j-init : goal.loop-j-init
@@ -39,8 +25,8 @@ loop-j-init c = (search rules, λ ps m e t h. h)
 
 pub returns-then-at-k : goal.returns-then-at-k
 returns-then-at-k c =
-    let a = (start c).args in
-    λ ps m e. passed c ps m e false
+    let a = c.args in
+    λ ps m e. passed (goal.at.returns-then-at-k c).After-next_equal-at ps m e false
     (seen_none a.text.now a.names.now a.prints.now a.k c.next_equal-at.result c.if-at-k.true ps)
 
 pub overflow_cast-names : goal.overflow_cast-names
@@ -51,22 +37,20 @@ overflow_cast-names-in-loop-j c = omega (arith, c.shared_slice_known-in-loop-j-2
 
 pub returns-then-same_name : goal.returns-then-same_name
 returns-then-same_name c =
-    let s = start c in
-    let a = s.args in
+    let a = c.args in
     let below : c.next_equal-at.result < a.k = search rules in
-    λ ps m e. passed c ps m e true
-    (seen_here a.text.now a.names.now a.prints.now a.k c.next_equal-at.result below (search rules) s.pre.2 ps
+    λ ps m e. passed (goal.at.returns-then-same_name c).After-next_equal-at ps m e true
+    (seen_here a.text.now a.names.now a.prints.now a.k c.next_equal-at.result below (search rules) c.requires.2 ps
     (get_or a.names.now a.k 0) m (λ qs rs x y. sym c.if-same_name.true ∙ c.same_name.ensures qs rs x y))
 
 pub loop-j-preserved : goal.loop-j-preserved
 loop-j-preserved c =
-    let s = start c in
-    let a = s.args in
+    let a = c.args in
     let below : c.next_equal-at.result < a.k = search rules in
     let room : a.k ≤ length a.names.now = omega arith in (
       search rules,
-      λ ps m e t h. passed c ps m e t
-          (other_name a.text.now a.names.now a.prints.now a.k c.next_equal-at.result below room s.pre.2 ps
+      λ ps m e t h. passed (goal.at.loop-j-preserved c).After-next_equal-at ps m e t
+          (other_name a.text.now a.names.now a.prints.now a.k c.next_equal-at.result below room c.requires.2 ps
           (get_or a.names.now a.k 0) m (λ qs rs x y. sym c.if-same_name.false ∙ c.same_name.ensures qs rs x y) t h),
     )
 

@@ -1,7 +1,6 @@
 use mathlib.Core.Path.{sym, ap}
 use native.Mathlib.Omega.{arith}
 use borrow.Author.Rules.{rules}
-use borrow.Author.Tests.{ne_eqb}
 use Rattle.pe_header.specs.Find.{short_unit}
 use Rattle.pe_header.proofs.names.short_unit.Goals as goal
 
@@ -28,5 +27,4 @@ returns-in-116 c = record { upper_bound = omega arith; value = sym (ap short_uni
 pub returns-in_default : goal.returns-in_default
 unfolding short_unit
 returns-in_default c =
-    let r = c.in-98.rest in
-    record { upper_bound = search rules; value = rw (ne_eqb _ _ r.0.0.0.0.1, ne_eqb _ _ r.0.0.0.1, ne_eqb _ _ r.0.0.1, ne_eqb _ _ r.0.1, ne_eqb _ _ r.1) }
+    record { upper_bound = search rules; value = grind arith }
