@@ -7,11 +7,12 @@
 
 mod table;
 
-ghost use Rattle.std.specs.Prelude.{◌<◌, ◌≤◌, length};
+ghost use Rattle.std.specs.Prelude.{◌<◌, ◌≤◌, IfOk, length};
 
 use codec_exports::answer::HeaderFields;
 use hub::answer::Answer;
-use libc::STDOUT_FILENO;
+use std::io;
+use std::io::{BufWriter, Read, Write};
 
 // Bytes past the end are 0.
 fn u8_at(s: &[u8], at: usize) -> u8 {
@@ -57,64 +58,63 @@ fn behind_header(s: &[u8], at: usize) -> &[u8]
     from(from(s, at + 2), u16_at(s, at) as usize)
 }
 
-fn print_value(n: u64) {
-    io::print_decimal(STDOUT_FILENO, n);
-    io::write_all(STDOUT_FILENO, b" ");
+fn print_value(to: &mut impl Write, n: u64) -> io::Result<()> {
+    write!(to, "{n} ")
 }
 
-fn print_byte(b: u8) {
-    print_value(b as u64);
+fn print_byte(to: &mut impl Write, b: u8) -> io::Result<()> {
+    print_value(to, b as u64)
 }
 
-fn print_flag(yes: bool) {
-    print_value(if yes { 1 } else { 0 });
+fn print_flag(to: &mut impl Write, yes: bool) -> io::Result<()> {
+    print_value(to, if yes { 1 } else { 0 })
 }
 
-fn print_refusal(refusal: u8, value: u8) {
-    io::write_all(STDOUT_FILENO, b"r ");
-    print_byte(refusal);
-    print_byte(value);
+fn print_refusal(to: &mut impl Write, refusal: u8, value: u8) -> io::Result<()> {
+    to.write_all(b"r ")?;
+    print_byte(to, refusal)?;
+    print_byte(to, value)
 }
 
-fn print_behind_space(b: u8) {
-    io::write_all(STDOUT_FILENO, b" ");
-    io::print_decimal(STDOUT_FILENO, b as u64);
+fn print_behind_space(to: &mut impl Write, b: u8) -> io::Result<()> {
+    write!(to, " {b}")
 }
 
-fn print_bytes(bytes: &[u8]) {
+fn print_bytes(to: &mut impl Write, bytes: &[u8]) -> io::Result<()> {
     let mut i = 0;
     while i < bytes.len() {
-        print_behind_space(bytes[i]);
+        print_behind_space(to, bytes[i])?;
         i += 1;
     }
+    Ok(())
 }
 
 // The output, in two parts, and the line's end.
-fn print_parts(one: &[u8], other: &[u8]) {
-    io::write_all(STDOUT_FILENO, b":");
-    print_bytes(one);
-    print_bytes(other);
-    io::write_all(STDOUT_FILENO, b"\n");
+fn print_parts(to: &mut impl Write, one: &[u8], other: &[u8]) -> io::Result<()> {
+    to.write_all(b":")?;
+    print_bytes(to, one)?;
+    print_bytes(to, other)?;
+    to.write_all(b"\n")
 }
 
-fn print_out(out: &[u8]) {
-    print_parts(out, b"");
+fn print_out(to: &mut impl Write, out: &[u8]) -> io::Result<()> {
+    print_parts(to, out, b"")
 }
 
-fn print_answer(a: Answer) {
+fn print_answer(to: &mut impl Write, a: Answer) -> io::Result<()> {
     if a.refusal == 0 {
-        print_value(a.count);
+        print_value(to, a.count)
     } else {
-        print_refusal(a.refusal, a.value);
+        print_refusal(to, a.refusal, a.value)
     }
 }
 
-fn print_header(h: HeaderFields) {
-    print_byte(h.device_id);
-    print_byte(h.sub_id2);
-    print_byte(h.version);
-    print_value(h.source as u64);
-    print_value(h.dest as u64);
+fn print_header(to: &mut impl Write, h: HeaderFields) -> io::Result<()> {
+    print_byte(to, h.device_id)?;
+    print_byte(to, h.sub_id2)?;
+    print_byte(to, h.version)?;
+    print_value(to, h.source as u64)?;
+    print_value(to, h.dest as u64)
 }
 
 // A header's fields, behind the room.
@@ -190,42 +190,44 @@ fn write(op: u8, s: &[u8], out: &mut [u8]) -> Answer {
     }
 }
 
-fn write_into(op: u8, s: &[u8], space: &mut [u8], room: usize) {
+fn write_into(to: &mut impl Write, op: u8, s: &[u8], space: &mut [u8], room: usize) -> io::Result<()> {
     if room <= space.len() {
-        print_answer(write(op, s, &mut space[0..room]));
-        print_out(&space[0..room]);
+        print_answer(to, write(op, s, &mut space[0..room]))?;
+        print_out(to, &space[0..room])?;
     }
+    Ok(())
 }
 
-fn play_writer(op: u8, s: &[u8]) {
+fn play_writer(to: &mut impl Write, op: u8, s: &[u8]) -> io::Result<()> {
     let mut space = [0xEEu8; 256];
-    write_into(op, s, &mut space, u16_at(s, 0) as usize);
+    write_into(to, op, s, &mut space, u16_at(s, 0) as usize)
 }
 
-fn muid_decode(s: &[u8]) {
+fn muid_decode(to: &mut impl Write, s: &[u8]) -> io::Result<()> {
     let bytes = [u8_at(s, 0), u8_at(s, 1), u8_at(s, 2), u8_at(s, 3)];
-    print_answer(codec_exports::ci::codec_muid_decode_7bit_le(&bytes));
+    print_answer(to, codec_exports::ci::codec_muid_decode_7bit_le(&bytes))
 }
 
-fn muid_encode(s: &[u8]) {
+fn muid_encode(to: &mut impl Write, s: &[u8]) -> io::Result<()> {
     let mut bytes = [0u8; 4];
     codec_exports::ci::codec_muid_encode_7bit_le(u32_at(s, 0), &mut bytes);
-    print_byte(bytes[0]);
-    print_byte(bytes[1]);
-    print_byte(bytes[2]);
-    print_byte(bytes[3]);
+    print_byte(to, bytes[0])?;
+    print_byte(to, bytes[1])?;
+    print_byte(to, bytes[2])?;
+    print_byte(to, bytes[3])
 }
 
-fn generate(words: &[u32], n: usize) {
+fn generate(to: &mut impl Write, words: &[u32], n: usize) -> io::Result<()> {
     if n <= words.len() {
         let generated = codec_exports::ci::codec_muid_generate(&words[0..n]);
-        print_flag(generated.found);
-        print_value(generated.number as u64);
+        print_flag(to, generated.found)?;
+        print_value(to, generated.number as u64)?;
     }
+    Ok(())
 }
 
 // Up to five words.
-fn muid_generate(s: &[u8]) {
+fn muid_generate(to: &mut impl Write, s: &[u8]) -> io::Result<()> {
     let words = [
         u32_at(s, 0),
         u32_at(s, 4),
@@ -233,73 +235,73 @@ fn muid_generate(s: &[u8]) {
         u32_at(s, 12),
         u32_at(s, 16),
     ];
-    generate(&words, s.len() / 4);
+    generate(to, &words, s.len() / 4)
 }
 
-fn header_decode(s: &[u8]) {
+fn header_decode(to: &mut impl Write, s: &[u8]) -> io::Result<()> {
     let answer = codec_exports::ci::codec_header_decode(s);
     if answer.refusal == 0 {
-        print_header(answer.header);
+        print_header(to, answer.header)
     } else {
-        print_refusal(answer.refusal, answer.value);
+        print_refusal(to, answer.refusal, answer.value)
     }
 }
 
-fn kind_of(s: &[u8]) {
+fn kind_of(to: &mut impl Write, s: &[u8]) -> io::Result<()> {
     let answer = codec_exports::ci::codec_kind_of(u8_at(s, 0));
-    print_flag(answer.known);
-    print_byte(answer.sub_id2);
-    print_flag(answer.chunked);
-    print_byte(answer.reply);
+    print_flag(to, answer.known)?;
+    print_byte(to, answer.sub_id2)?;
+    print_flag(to, answer.chunked)?;
+    print_byte(to, answer.reply)
 }
 
-fn caps_decode(s: &[u8]) {
+fn caps_decode(to: &mut impl Write, s: &[u8]) -> io::Result<()> {
     let answer = codec_exports::ci::codec_caps_decode(s);
     if answer.refusal == 0 {
-        print_header(answer.header);
-        print_byte(answer.simultaneous_requests);
-        print_byte(answer.pe_major);
-        print_byte(answer.pe_minor);
+        print_header(to, answer.header)?;
+        print_byte(to, answer.simultaneous_requests)?;
+        print_byte(to, answer.pe_major)?;
+        print_byte(to, answer.pe_minor)
     } else {
-        print_refusal(answer.refusal, answer.value);
+        print_refusal(to, answer.refusal, answer.value)
     }
 }
 
 // The payload is shown as the output.
-fn play_message(s: &[u8]) {
+fn play_message(to: &mut impl Write, s: &[u8]) -> io::Result<()> {
     let answer = codec_exports::ci::codec_message_decode(s);
     if answer.refusal != 0 {
-        print_refusal(answer.refusal, answer.value);
-        print_out(b"");
-        return;
+        print_refusal(to, answer.refusal, answer.value)?;
+        return print_out(to, b"");
     }
-    print_header(answer.header);
+    print_header(to, answer.header)?;
     let payload = from(s, answer.payload_at as usize);
     let len = answer.payload_len as usize;
     if len <= payload.len() {
-        print_out(&payload[0..len]);
+        print_out(to, &payload[0..len])?;
     }
+    Ok(())
 }
 
 // Header and property are shown as the output.
-fn play_chunk(s: &[u8]) {
+fn play_chunk(to: &mut impl Write, s: &[u8]) -> io::Result<()> {
     let answer = codec_exports::pe::codec_decode_fields(s);
     if answer.refusal != 0 {
-        print_refusal(answer.refusal, answer.value);
-        print_out(b"");
-        return;
+        print_refusal(to, answer.refusal, answer.value)?;
+        return print_out(to, b"");
     }
-    print_byte(answer.request_id);
-    print_value(answer.header_len);
-    print_value(answer.num_chunks as u64);
-    print_value(answer.chunk_num as u64);
-    print_value(answer.property_at);
-    print_value(answer.property_len);
+    print_byte(to, answer.request_id)?;
+    print_value(to, answer.header_len)?;
+    print_value(to, answer.num_chunks as u64)?;
+    print_value(to, answer.chunk_num as u64)?;
+    print_value(to, answer.property_at)?;
+    print_value(to, answer.property_len)?;
     let property = from(s, answer.property_at as usize);
     print_parts(
+        to,
         first(from(s, 3), answer.header_len as usize),
         first(property, answer.property_len as usize),
-    );
+    )
 }
 
 fn first_capacity(s: &[u8]) -> Answer {
@@ -315,113 +317,143 @@ fn chunk_count(s: &[u8]) -> Answer {
     )
 }
 
-fn alloc_out_request_id(s: &[u8]) {
+fn alloc_out_request_id(to: &mut impl Write, s: &[u8]) -> io::Result<()> {
     let allocated = hub::controller::midici_pe_alloc_out_request_id(u8_at(s, 0));
-    print_byte(allocated.request_id);
-    print_byte(allocated.counter);
+    print_byte(to, allocated.request_id)?;
+    print_byte(to, allocated.counter)
 }
 
 // The functions that write nothing, but for the message and the chunk.
-fn play_reader(op: u8, s: &[u8]) {
+fn play_reader(to: &mut impl Write, op: u8, s: &[u8]) -> io::Result<()> {
     match op {
-        1 => print_answer(codec_exports::pe::codec_read_u14_le7(s)),
-        3 => print_answer(codec_exports::ci::codec_muid_from_u32(u32_at(s, 0))),
-        4 => print_answer(codec_exports::ci::codec_muid_ordinary(u32_at(s, 0))),
-        5 => print_flag(codec_exports::ci::codec_muid_is_broadcast(u32_at(s, 0))),
-        6 => print_flag(codec_exports::ci::codec_muid_is_reserved(u32_at(s, 0))),
-        7 => muid_encode(s),
-        8 => muid_decode(s),
-        9 => muid_generate(s),
-        10 => header_decode(s),
-        12 => print_flag(codec_exports::ci::codec_is_pe_chunked_sub_id(u8_at(s, 0))),
-        13 => kind_of(s),
-        14 => caps_decode(s),
-        20 => print_byte(codec_exports::pe::codec_first_request_id()),
-        21 => alloc_out_request_id(s),
-        22 => print_byte(codec_exports::pe::codec_negotiated_requests(u8_at(s, 0), u8_at(s, 1))),
-        26 => print_value(codec_exports::pe::codec_clamp_max_sysex(u32_at(s, 0)) as u64),
-        27 => print_value(codec_exports::pe::codec_pe_payload_budget(u32_at(s, 0))),
-        28 => print_value(codec_exports::pe::codec_later_chunk_property_capacity(u32_at(s, 0))),
-        29 => print_answer(first_capacity(s)),
-        30 => print_answer(chunk_count(s)),
-        _ => print_flag(false),
-    }
-    print_out(b"");
+        1 => print_answer(to, codec_exports::pe::codec_read_u14_le7(s)),
+        3 => print_answer(to, codec_exports::ci::codec_muid_from_u32(u32_at(s, 0))),
+        4 => print_answer(to, codec_exports::ci::codec_muid_ordinary(u32_at(s, 0))),
+        5 => print_flag(to, codec_exports::ci::codec_muid_is_broadcast(u32_at(s, 0))),
+        6 => print_flag(to, codec_exports::ci::codec_muid_is_reserved(u32_at(s, 0))),
+        7 => muid_encode(to, s),
+        8 => muid_decode(to, s),
+        9 => muid_generate(to, s),
+        10 => header_decode(to, s),
+        12 => print_flag(to, codec_exports::ci::codec_is_pe_chunked_sub_id(u8_at(s, 0))),
+        13 => kind_of(to, s),
+        14 => caps_decode(to, s),
+        20 => print_byte(to, codec_exports::pe::codec_first_request_id()),
+        21 => alloc_out_request_id(to, s),
+        22 => print_byte(to, codec_exports::pe::codec_negotiated_requests(u8_at(s, 0), u8_at(s, 1))),
+        26 => print_value(to, codec_exports::pe::codec_clamp_max_sysex(u32_at(s, 0)) as u64),
+        27 => print_value(to, codec_exports::pe::codec_pe_payload_budget(u32_at(s, 0))),
+        28 => print_value(to, codec_exports::pe::codec_later_chunk_property_capacity(u32_at(s, 0))),
+        29 => print_answer(to, first_capacity(s)),
+        30 => print_answer(to, chunk_count(s)),
+        _ => print_flag(to, false),
+    }?;
+    print_out(to, b"")
 }
 
 // The functions that need no memory but an output, the writers first.
-fn play_function(op: u8, s: &[u8]) {
+fn play_function(to: &mut impl Write, op: u8, s: &[u8]) -> io::Result<()> {
     match op {
-        2 | 11 | 15 | 17 | 18 | 19 | 24 | 25 | 31 | 32 => play_writer(op, s),
-        16 => play_message(s),
-        23 => play_chunk(s),
-        _ => play_reader(op, s),
+        2 | 11 | 15 | 17 | 18 | 19 | 24 | 25 | 31 | 32 => play_writer(to, op, s),
+        16 => play_message(to, s),
+        23 => play_chunk(to, s),
+        _ => play_reader(to, op, s),
     }
 }
 
 fn play(
+    to: &mut impl Write,
     op: u8,
     s: &[u8],
     numbers: &mut [u64],
     index: &mut [u64],
     headers: &mut [u8],
     arenas: &mut [u8],
-) {
+) -> io::Result<()> {
     match op {
-        64 => table::new(numbers, index, headers, arenas),
-        65 => table::feed(s, numbers, index, headers, arenas),
-        66 => table::cancel(s, numbers),
-        67 => table::drop_peer(s, numbers),
-        68 => table::poll(s, numbers),
-        69 => table::memory_stats(numbers),
-        _ => play_function(op, s),
+        64 => table::new(to, numbers, index, headers, arenas),
+        65 => table::feed(to, s, numbers, index, headers, arenas),
+        66 => table::cancel(to, s, numbers),
+        67 => table::drop_peer(to, s, numbers),
+        68 => table::poll(to, s, numbers),
+        69 => table::memory_stats(to, numbers),
+        _ => play_function(to, op, s),
     }
 }
 
 // Plays the record at `at`, and returns the place after it, or the end where it is cut off.
 fn record(
+    to: &mut impl Write,
     s: &[u8],
     at: usize,
     numbers: &mut [u64],
     index: &mut [u64],
     headers: &mut [u8],
     arenas: &mut [u8],
-) -> usize
+) -> io::Result<usize>
     requires { at < length s.now }
-    ensures lower_bound { at < result }
-    ensures upper_bound { result ≤ length s.now }
+    ensures lower_bound { IfOk result (λ next. at < next) }
+    ensures upper_bound { IfOk result (λ next. next ≤ length s.now) }
 {
     let start = at + 1;
     let n = u16_at(&s[start..], 0) as usize;
     if s.len() - start < n + 2 {
-        return s.len();
+        return Ok(s.len());
     }
     let body = start + 2;
     let end = body + n;
-    play(s[at], &s[body..end], numbers, index, headers, arenas);
-    end
+    play(to, s[at], &s[body..end], numbers, index, headers, arenas)?;
+    Ok(end)
 }
 
-fn replay(s: &[u8], numbers: &mut [u64], index: &mut [u64], headers: &mut [u8], arenas: &mut [u8]) {
+fn replay(
+    to: &mut impl Write,
+    s: &[u8],
+    numbers: &mut [u64],
+    index: &mut [u64],
+    headers: &mut [u8],
+    arenas: &mut [u8],
+) -> io::Result<()> {
     let mut at = 0;
     while at < s.len() {
-        at = record(s, at, numbers, index, headers, arenas);
+        at = record(to, s, at, numbers, index, headers, arenas)?;
     }
+    Ok(())
+}
+
+// Reads until block is full, the input ends or a read fails, and returns how many bytes it put at the start of block.
+fn read_full(input: &mut impl Read, block: &mut [u8]) -> usize
+    ensures { result ≤ length block.new }
+{
+    let mut have = 0;
+    while have < block.len() {
+        let Ok(got) = input.read(&mut block[have..]) else {
+            break;
+        };
+        if got == 0 {
+            break;
+        }
+        have += got;
+    }
+    have
 }
 
 // The table has one peer, at full size.
-fn main() {
+fn main(rt: HostRuntime) -> io::Result<()> {
     let mut input = [0u8; 65536];
     let mut numbers = [0u64; 39];
     let mut index = [0u64; 8192];
     let mut headers = [0u8; 16384];
     let mut arenas = [0u8; 262144];
-    let n = io::read_full(0, &mut input);
+    let n = read_full(&mut rt.stdin(), &mut input);
+    let mut to = BufWriter::new(rt.alloc(), io::writer(&rt))?;
     replay(
+        &mut to,
         &input[..n],
         &mut numbers,
         &mut index,
         &mut headers,
         &mut arenas,
-    );
+    )?;
+    to.flush()
 }

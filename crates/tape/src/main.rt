@@ -7,11 +7,11 @@ ghost use Rattle.pe_reassembler.specs.Feed.{memory};
 ghost use Rattle.pe_tape.specs.Told.{stop_told};
 ghost use Rattle.tape.specs.Rest.{Behind, moved, is_over, BlockPlayed};
 
-use libc::{STDERR_FILENO, STDIN_FILENO, STDOUT_FILENO};
 use pe_reassembler::calls::new;
 use pe_tape::error::TapeError;
 use pe_tape::line::last_line;
 use pe_tape::play::{SHAPE, Stop, play};
+use std::io::Read;
 
 // What a read brought: so many bytes, none where the input ends or the block is full; or that it failed.
 #[derive(Clone, Copy)]
@@ -28,21 +28,22 @@ enum Turn {
     Failed,
 }
 
-fn complain(text: &[u8]) {
-    io::write_all(STDERR_FILENO, text);
+fn complain(rt: &impl Eprint, text: &str) {
+    let _ = rt.eprintln(text);
 }
 
 // Reads once, behind the bytes that are there.
-fn read_behind(block: &mut [u8], have: usize) -> Came
+fn read_behind(rt: &impl Eprint, input: &mut impl Read, block: &mut [u8], have: usize) -> Came
     requires { have ≤ length block.old }
     ensures { Behind block.old have result block.new }
 {
-    let got = libc::read(STDIN_FILENO, &mut block[have..]);
-    if got < 0 {
-        complain(b"tape: standard input cannot be read\n");
-        return Came::Failed;
+    match input.read(&mut block[have..]) {
+        Ok(got) => Came::Bytes(got),
+        Err(_) => {
+            complain(rt, "tape: standard input cannot be read");
+            Came::Failed
+        }
     }
-    Came::Bytes(io::count(got, &block[have..]))
 }
 
 // Moves the bytes from one place up to another to the block's front.
@@ -58,20 +59,20 @@ fn keep_rest(block: &mut [u8], from: usize, to: usize)
 }
 
 // Writes text, or says that it can't.
-fn print(text: &[u8]) -> bool {
-    if io::write_all(STDOUT_FILENO, text) {
+fn print(rt: &(impl Print + Eprint), text: &[u8]) -> bool {
+    if rt.write_all(text).is_ok() {
         return true;
     }
-    complain(b"tape: standard output cannot be written\n");
+    complain(rt, "tape: standard output cannot be written");
     false
 }
 
-fn print_last(stop: Stop) {
+fn print_last(rt: &(impl Print + Eprint), stop: Stop) {
     if let Stop::Refused(e) = stop {
         let last = last_line(e);
         let bytes = last.bytes;
         let len = last.len;
-        print(&bytes[..len]);
+        print(rt, &bytes[..len]);
     }
 }
 
@@ -93,6 +94,7 @@ fn is_over(stop: Stop, nothing_came: bool, next: usize) -> bool
 
 // Plays a block's first bytes and writes the lines; then what is not played stands at the block's front, or the play is over.
 fn play_block(
+    rt: &(impl Print + Eprint),
     block: &mut [u8],
     len: usize,
     nothing_came: bool,
@@ -123,11 +125,11 @@ fn play_block(
     let next = progress.next;
     let written = progress.written;
     let stop = progress.stop;
-    if !print(&out[..written]) {
+    if !print(rt, &out[..written]) {
         return Turn::Failed;
     }
     if is_over(stop, nothing_came, next) {
-        print_last(stop);
+        print_last(rt, stop);
         return Turn::Over;
     }
     keep_rest(block, next, len);
@@ -136,6 +138,8 @@ fn play_block(
 
 // A proved loop has to end, and nothing says that a tape does: it counts its turns down, from a number that no run uses up.
 fn replay(
+    rt: &(impl Print + Eprint),
+    input: &mut impl Read,
     block: &mut [u8],
     numbers: &mut [u64],
     index: &mut [u64],
@@ -148,10 +152,11 @@ fn replay(
     let mut have = 0;
     let mut turns = u64::MAX;
     while turns > 0 {
-        let Came::Bytes(got) = read_behind(block, have) else {
+        let Came::Bytes(got) = read_behind(rt, input, block, have) else {
             return;
         };
         let Turn::Left(left) = play_block(
+            rt,
             block,
             have + got,
             got == 0,
@@ -172,7 +177,7 @@ fn replay(
 
 // A block has room for the longest command, 65,550 bytes, and the output for the lines of a whole block: the shortest command has 5 bytes and
 // a line of at most 6, and no other has a longer line for its bytes. A table has a clock, and for each of the two peers 38 words and four slots.
-fn main() {
+fn main(rt: HostRuntime) {
     let mut block = [0u8; 131072];
     let mut numbers = [0u64; 1 + 2 * 38];
     let mut index = [0u64; 2 * 4 * 64];
@@ -183,6 +188,8 @@ fn main() {
     let mut out = [0u8; 163840];
     new(SHAPE, &mut numbers, &mut index, &headers, &arenas);
     replay(
+        &rt,
+        &mut rt.stdin(),
         &mut block,
         &mut numbers,
         &mut index,

@@ -3,61 +3,63 @@
 // not written; at the end the two last lines that a tape can have.
 #![tactic(auto)]
 
-use libc::STDOUT_FILENO;
 use pe_tape::command::{Command, FedChunk};
 use pe_tape::error::TapeError;
 use pe_tape::line::last_line;
 use pe_tape::read::{CommandRead, read_command};
 use pe_tape::write::{CommandWritten, write_command};
+use std::io;
+use std::io::{BufWriter, Write};
 
-fn print_byte(b: u8) {
-    io::print_hex(STDOUT_FILENO, b as u64, 2);
-    io::write_all(STDOUT_FILENO, b" ");
+fn print_byte(to: &mut impl Write, b: u8) -> io::Result<()> {
+    write!(to, "{b:02x} ")
 }
 
-fn print_bytes(bytes: &[u8]) {
+fn print_bytes(to: &mut impl Write, bytes: &[u8]) -> io::Result<()> {
     let mut i = 0;
     while i < bytes.len() {
-        print_byte(bytes[i]);
+        print_byte(to, bytes[i])?;
         i += 1;
     }
+    Ok(())
 }
 
 // The bytes that were written, or why none were.
-fn print_written(written: CommandWritten, out: &[u8]) {
+fn print_written(to: &mut impl Write, written: CommandWritten, out: &[u8]) -> io::Result<()> {
     match written {
         CommandWritten::Bytes(n) => {
             if n <= out.len() {
-                print_bytes(&out[0..n]);
+                print_bytes(to, &out[0..n])?;
             }
         }
         CommandWritten::Refused(e) => {
-            io::write_all(STDOUT_FILENO, b"r");
-            io::print_decimal(STDOUT_FILENO, e.number() as u64);
+            let number = e.number();
+            write!(to, "r{number}")?;
         }
     }
-    io::write_all(STDOUT_FILENO, b"\n");
+    to.write_all(b"\n")
 }
 
 // Reads the command that bytes begin with, and writes it again.
-fn print_again(tape: &[u8]) {
+fn print_again(to: &mut impl Write, tape: &[u8]) -> io::Result<()> {
     let mut out = [0u8; 32];
     if let CommandRead::Next(command, _) = read_command(tape, 0) {
-        print_written(write_command(command, tape, &mut out), &out);
+        print_written(to, write_command(command, tape, &mut out), &out)?;
     }
+    Ok(())
 }
 
-fn print_command(command: Command, source: &[u8]) {
+fn print_command(to: &mut impl Write, command: Command, source: &[u8]) -> io::Result<()> {
     let mut out = [0u8; 32];
-    print_written(write_command(command, source, &mut out), &out);
-    print_again(&out);
+    print_written(to, write_command(command, source, &mut out), &out)?;
+    print_again(to, &out)
 }
 
-fn print_last(e: TapeError) {
+fn print_last(to: &mut impl Write, e: TapeError) -> io::Result<()> {
     let last = last_line(e);
     let bytes = last.bytes;
     let len = last.len;
-    io::write_all(STDOUT_FILENO, &bytes[..len]);
+    to.write_all(&bytes[..len])
 }
 
 fn feed(peer: u32, now_ms: u64, chunk_at: usize, chunk_len: usize) -> Command {
@@ -69,21 +71,27 @@ fn feed(peer: u32, now_ms: u64, chunk_at: usize, chunk_len: usize) -> Command {
     })
 }
 
-fn main() {
+fn print_all(to: &mut impl Write) -> io::Result<()> {
     let chunk = [
         0x05, 0x02, 0x00, 0x7B, 0x7D, 0x01, 0x00, 0x01, 0x00, 0x00, 0x00,
     ];
-    print_command(feed(5, 1000, 0, 11), &chunk);
-    print_command(Command::Poll(4000), b"");
-    print_command(feed(0xFFFF_FFFF, 0xFFFF_FFFF_FFFF_FFFF, 10, 1), &chunk);
-    print_command(feed(0, 0, 11, 0), &chunk);
-    print_command(Command::Cancel(0x0102_0304, 0xFF), b"");
-    print_command(Command::Cancel(0, 0), b"");
-    print_command(Command::Drop(0xFFFF_FFFF), b"");
-    print_command(Command::Drop(0), b"");
-    print_command(Command::Poll(0x0102_0304_0506_0708), b"");
-    print_command(Command::Poll(0), b"");
-    print_command(feed(5, 1000, 1, 11), &chunk);
-    print_last(TapeError::UnknownCommand);
-    print_last(TapeError::CutOff);
+    print_command(to, feed(5, 1000, 0, 11), &chunk)?;
+    print_command(to, Command::Poll(4000), b"")?;
+    print_command(to, feed(0xFFFF_FFFF, 0xFFFF_FFFF_FFFF_FFFF, 10, 1), &chunk)?;
+    print_command(to, feed(0, 0, 11, 0), &chunk)?;
+    print_command(to, Command::Cancel(0x0102_0304, 0xFF), b"")?;
+    print_command(to, Command::Cancel(0, 0), b"")?;
+    print_command(to, Command::Drop(0xFFFF_FFFF), b"")?;
+    print_command(to, Command::Drop(0), b"")?;
+    print_command(to, Command::Poll(0x0102_0304_0506_0708), b"")?;
+    print_command(to, Command::Poll(0), b"")?;
+    print_command(to, feed(5, 1000, 1, 11), &chunk)?;
+    print_last(to, TapeError::UnknownCommand)?;
+    print_last(to, TapeError::CutOff)
+}
+
+fn main(rt: HostRuntime) -> io::Result<()> {
+    let mut to = BufWriter::new(rt.alloc(), io::writer(&rt))?;
+    print_all(&mut to)?;
+    to.flush()
 }
