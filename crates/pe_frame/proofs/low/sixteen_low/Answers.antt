@@ -1,10 +1,6 @@
-use mathlib.Core.Path.{sym, ap, ◌∙◌}
-use Prim.Native.Nat.{◌≤◌}
+use mathlib.Core.Path.{sym}
 use native.Mathlib.Omega.{arith}
 use borrow.Author.Rules.{rules}
-use lib.ListN.{length}
-use lib.Seq.{take_all}
-use Rattle.seven_bit.specs.SevenBit.{is_seven_bit}
 use Rattle.pe_frame.proofs.LowLaws.{front_none, front_next, high_at}
 use Rattle.pe_frame.proofs.low.sixteen_low.Goals as goal
 
@@ -18,9 +14,3 @@ pub loop-i-preserved : goal.loop-i-preserved
 loop-i-preserved c =
     let l = c.loop-i in
     (search rules, front_next c.args.s.now l.i (search rules) l.invariant.1 c.if-s-i-gt127.false)
-
-pub returns : goal.returns
-returns c =
-    let l = c.loop-i in
-    let e : length c.args.s.now ≤ l.i = omega (arith, c.requires, c.loop-i-test.false) in
-    sym (ap is_seven_bit (sym (take_all l.i c.args.s.now e)) ∙ l.invariant.1)

@@ -1,5 +1,5 @@
 use mathlib.Core.Path.{refl, sym, ◌∙◌}
-use lib.ListN.{drop_of_length-le, length-take, length-drop}
+use lib.ListN.{drop_of_length-le}
 use native.Mathlib.Omega.{arith}
 use borrow.Author.Rules.{rules}
 use Rattle.pe_mcoded7.specs.Mcoded7.{group_bytes, encoded}
@@ -9,9 +9,6 @@ use Rattle.pe_mcoded7.proofs.groups.encode_into.Goals as goal
 
 pub loop-i-init : goal.loop-i-init
 loop-i-init c = (search rules, omega (arith, length_encoded c.args.input.now), refl, refl)
-
-pub encode_group-requires : goal.encode_group-requires
-encode_group-requires c = simp (length-take, length-drop) (omega arith)
 
 pub loop-i-preserved : goal.loop-i-preserved
 loop-i-preserved c =

@@ -1,9 +1,8 @@
 use mathlib.Core.Path.{◌≡◌, ◌∙◌, ap}
 use Prim.Native.Nat.{ℕ}
-use lib.ListN.{length}
 use mathlib.Core.List.{List, ◌++◌}
 use Rattle.seven_bit.specs.Parts.{put, put_fit}
-use Rattle.seven_bit.proofs.PartLaws.{fit_fit, length_put}
+use Rattle.seven_bit.proofs.PartLaws.{fit_fit}
 use Rattle.midici_core.specs.Header.{header_of, bytes_of_header}
 use Rattle.midici_core.proofs.HeaderLaws.{header_length}
 use Rattle.midici_core.proofs.header.CiHeader.store.Goals as goal
@@ -18,9 +17,6 @@ after c =
     c.copy_in-2.ensures
     ∙ ap (λ (l : List ℕ). put_fit l 13 a.data.now) first
     ∙ fit_fit a.out.now bytes a.data.now 13 (header_length (header_of a.self)) c.requires
-
-pub shape_of-out : goal.shape_of-out
-shape_of-out c = ap length (after (goal.at.shape_of-out c).After-copy_in-2) ∙ length_put c.args.out.now 0 _
 
 pub returns : goal.returns
 returns c = after (goal.at.returns c).After-copy_in-2
