@@ -30,10 +30,10 @@ returns-then-at-k c =
     (seen_none a.text.now a.names.now a.prints.now a.k c.next_equal-at.result c.if-at-k.true ps)
 
 pub overflow_cast-names : goal.overflow_cast-names
-overflow_cast-names c = omega (arith, c.shared_slice_known-in-loop-j-1.given c.next_equal-at.result)
+overflow_cast-names c = omega (arith, c.type_inv.names c.next_equal-at.result)
 
 pub overflow_cast-names-in-loop-j : goal.overflow_cast-names-in-loop-j
-overflow_cast-names-in-loop-j c = omega (arith, c.shared_slice_known-in-loop-j-2-1.given c.args.k)
+overflow_cast-names-in-loop-j c = omega (arith, c.type_inv.names c.args.k)
 
 pub returns-then-same_name : goal.returns-then-same_name
 returns-then-same_name c =
