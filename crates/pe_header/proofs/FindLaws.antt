@@ -14,7 +14,7 @@ use Rattle.seven_bit.specs.SevenBit.{is_seven_bit}
 use Rattle.flat_json.specs.Abnf.{Matches}
 use Rattle.flat_json.specs.Grammar.{json_text}
 use Rattle.flat_json.specs.Table.{RightTable, run}
-use Rattle.flat_json.specs.Tree.{Entry, Inside, blank, entries, Tree, entry_text, entries_text, inside_text, text as treeText, GoodEntry, GoodEntries, GoodInside, Good}
+use Rattle.flat_json.specs.Tree.{Entry, Inside, blank, entries, Tree, entry_text, entries_text, inside_text, text as tree_text, GoodEntry, GoodEntries, GoodInside, Good}
 use Rattle.flat_json.specs.Parse.{parse}
 use Rattle.flat_json.proofs.RunLaws.{object_law}
 use Rattle.flat_json.proofs.ParseTold.{parse_law}
@@ -33,7 +33,7 @@ unfolding find_value
 find_long header name h = rw (lt-leb (length header) 4096 h)
 
 -- A header that is the text of a good tree.
-pub find_tree : (header name : List ℕ) (t : Tree) → length header ≤ 4096 → Good t → treeText t ≡ header → find_value header name ≡ find_in t name
+pub find_tree : (header name : List ℕ) (t : Tree) → length header ≤ 4096 → Good t → tree_text t ≡ header → find_value header name ≡ find_in t name
 unfolding find_value find_parsed
 find_tree header name t h g e = rw (le-leb (length header) 4096 h, (parse_law header t).1 (g, e))
 
@@ -68,8 +68,8 @@ stand_entries text from e (d ∷ ds) tail g gs w =
         let r = entry_text d (entries_text ds (0x7D ∷ tail)) in
         ahead text (from + length (entry_text e [])) (0x2C ∷ []) r (ahead text from (entry_text e []) (0x2C ∷ r) (w ∙ entry_text_law e (0x2C ∷ r)))
 
-pub stand_tree : (text : List ℕ) (t : Tree) → Good t → treeText t ≡ text → Stand text (length t.before + 1) (list t.inside)
-unfolding treeText inside_text GoodInside list Stand
+pub stand_tree : (text : List ℕ) (t : Tree) → Good t → tree_text t ≡ text → Stand text (length t.before + 1) (list t.inside)
+unfolding tree_text inside_text GoodInside list Stand
 stand_tree text t g e = go t.inside g.inside (sym e)
   where
     go : (i : Inside) → GoodInside i → text ≡ t.before ++ 0x7B ∷ inside_text i (0x7D ∷ t.after) → Stand text (length t.before + 1) (list i)
@@ -90,8 +90,8 @@ names_stand text from (e ∷ es) s = (
 )
 
 -- a member takes five bytes at least, and the object two more than its members without a comma
-pub few_names : (text : List ℕ) (t : Tree) → Good t → treeText t ≡ text → 5 * length (list t.inside) ≤ length text
-unfolding treeText inside_text GoodInside list
+pub few_names : (text : List ℕ) (t : Tree) → Good t → tree_text t ≡ text → 5 * length (list t.inside) ≤ length text
+unfolding tree_text inside_text GoodInside list
 few_names text t g e = go t.inside g.inside (sym e)
   where
     go : (i : Inside) → GoodInside i → text ≡ t.before ++ 0x7B ∷ inside_text i (0x7D ∷ t.after) → 5 * length (list i) ≤ length text
@@ -105,7 +105,7 @@ few_names text t g e = go t.inside g.inside (sym e)
 -- the tree of a header that the table accepts, read
 pub tree_read : (table : List ℕ) → RightTable table → (text name room names : List ℕ) (walk : Walk) → length text ≤ 5 * length room → length names ≡ length room
     → (walk.at.state ≡ run table 0 text)
-    × ((t : Tree) → Good t → treeText t ≡ text → length (list t.inside) ≤ length room → AllRead name (length t.before + 1) (list t.inside) names walk)
+    × ((t : Tree) → Good t → tree_text t ≡ text → length (list t.inside) ≤ length room → AllRead name (length t.before + 1) (list t.inside) names walk)
     → walk.at.state ≡ 28 → TreeRead text name names walk
 tree_read table right text name room names walk h l e s =
     let m = matches_tree text ((object_law table right text).0 (sym e.0 ∙ s)) in
@@ -120,7 +120,7 @@ names_read text name names walk r =
     (names_stand text (length r.tree.before + 1) (list r.tree.inside) (stand_tree text r.tree r.good r.is_text))
 
 -- the questions of `find_in` in their order
-pub find_told : (header name : List ℕ) (t : Tree) → length header ≤ 4096 → Good t → treeText t ≡ header → (a b : Bool) → all_small (list t.inside) ≡ a
+pub find_told : (header name : List ℕ) (t : Tree) → length header ≤ 4096 → Good t → tree_text t ≡ header → (a b : Bool) → all_small (list t.inside) ≡ a
     → repeated (list t.inside) ≡ b
     → find_value header name ≡ cond a (cond b (refused 35 0) (granted (find_named t name))) (refused 34 0)
 unfolding find_in

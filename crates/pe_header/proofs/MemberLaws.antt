@@ -13,7 +13,7 @@ use lib.Seq.{drop_at, take-suc, take-set-le, get_or-set_same, lt-length-set}
 use Rattle.flat_json.specs.declared.Spot.{Spot}
 use Rattle.flat_json.specs.Table.{RightTable, run, spot, reached_over, reached}
 use Rattle.flat_json.specs.Tree.{is_ws, is_digit, all, Piece, Value, number, Entry, Inside, blank, entries, Tree, pieces_text, string_text, value_text, lead_text}
-use Rattle.flat_json.specs.Tree.{entry_text, entries_text, inside_text, text as treeText, good_value, GoodEntry, GoodEntries, GoodInside, Good}
+use Rattle.flat_json.specs.Tree.{entry_text, entries_text, inside_text, text as tree_text, good_value, GoodEntry, GoodEntries, GoodInside, Good}
 use Rattle.flat_json.proofs.Moves.{LeadMoves, first_moves, later_moves, outside}
 use Rattle.flat_json.proofs.WalkLaws.{reached_stop, reached_within, reached_run}
 use Rattle.flat_json.proofs.ParseText.{number_digits}
@@ -74,8 +74,8 @@ module _ (table : List ℕ) (right : RightTable table) where
         )
 
     -- from the text's start
-    first_ahead : (t : Tree) → Good t → treeText t ≡ text → Ahead text (reached table text (spot 0 0) 2) (length t.before + 1) (list t.inside)
-    unfolding reached treeText Ahead inside_text GoodInside list
+    first_ahead : (t : Tree) → Good t → tree_text t ≡ text → Ahead text (reached table text (spot 0 0) 2) (length t.before + 1) (list t.inside)
+    unfolding reached tree_text Ahead inside_text GoodInside list
     first_ahead t g e = go t.inside g.inside (sym e)
       where
         opened : (r : List ℕ) → text ≡ t.before ++ 0x7B ∷ r → reached_over table 2 0 0 (drop 0 text) ≡ reached_over table 2 (length t.before + 1) 1 r
@@ -358,7 +358,7 @@ module _ (table : List ℕ) (right : RightTable table) (text name : List ℕ) (w
           found-told.0 (λ z. found-told.1 z m.entry.name (a_name text walk.at.place m.entry (n.0 ∷ n.1) m.good w))
 
 -- before the first member, and behind the last
-pub started : (table : List ℕ) → RightTable table → (text name names : List ℕ) (t : Tree) → Good t → treeText t ≡ text → (at : Spot) → at
+pub started : (table : List ℕ) → RightTable table → (text name names : List ℕ) (t : Tree) → Good t → tree_text t ≡ text → (at : Spot) → at
     ≡ reached table text (spot 0 0) 2
     → SoFar text name (length t.before + 1) (list t.inside) names (record { at = at; names = 0; small = true; found = quoted 0 0 0 (spot 0 0) })
 unfolding found_or

@@ -1,7 +1,7 @@
 -- What the theorems about answers speak of (proofs/WhatIsFound): the entries of a header's tree.
 -- Assumes nothing.
 use Rattle.std.specs.Prelude.{ℕ, ◌<◌, List, ◌∷◌, ◌++◌, ◌≡◌, take, drop}
-use Rattle.flat_json.specs.Tree.{number, Entry, Tree, text as treeText, Good}
+use Rattle.flat_json.specs.Tree.{number, Entry, Tree, text as tree_text, Good}
 use Rattle.pe_header.specs.declared.Kind.{Kind}
 use Rattle.pe_header.specs.Find.{units, kind_of, value_bytes, list, decimal}
 
@@ -9,7 +9,7 @@ use Rattle.pe_header.specs.Find.{units, kind_of, value_bytes, list, decimal}
 pub record TreeOf (header : List ℕ) : Type 0 where
   pub tree : Tree
   pub good : Good tree
-  pub is_text : treeText tree ≡ header
+  pub is_text : tree_text tree ≡ header
 
 abbrev pub entries_of : {header : List ℕ} → TreeOf header → List Entry
 entries_of t = list t.tree.inside

@@ -3,7 +3,7 @@
 use Rattle.std.specs.Prelude.{ℕ, ◌+◌, ◌-◌, ◌≤◌, true, cond, ◌&&◌, ◌||◌, List, [], ◌∷◌, ◌++◌, ◌⊎◌, ◌≡◌, eqb, length, drop, take}
 use Rattle.flat_json.specs.declared.Spot.{Spot}
 use Rattle.flat_json.specs.Table.{spot, reached_over}
-use Rattle.flat_json.specs.Tree.{is_ws, all, Value, number, Entry, GoodEntry, GoodEntries, pieces_text, value_text, entry_text, entries_text, text as treeText}
+use Rattle.flat_json.specs.Tree.{is_ws, all, Value, number, Entry, GoodEntry, GoodEntries, pieces_text, value_text, entry_text, entries_text, text as tree_text}
 use Rattle.flat_json.specs.Tree.{Tree, Good}
 use Rattle.pe_header.specs.declared.Kind.{Kind}
 use Rattle.pe_header.specs.declared.members.Value.{Value as ValueRead}
@@ -81,6 +81,6 @@ pub record AllRead (name : List ℕ) (from : ℕ) (es : List Entry) (names : Lis
 pub record TreeRead (text name names : List ℕ) (walk : Walk) : Type 0 where
   pub tree : Tree
   pub good : Good tree
-  pub is_text : treeText tree ≡ text
+  pub is_text : tree_text tree ≡ text
   pub room : walk.names ≤ length names
   pub all_read : AllRead name (length tree.before + 1) (list tree.inside) names walk

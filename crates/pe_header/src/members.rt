@@ -1,7 +1,7 @@
 // The members of an object, one after the other. The decisions are those of the table.
 ghost use Rattle.std.specs.Prelude.{◌≡◌, true, cond, ◌&&◌, List, ◌∷◌, ◌++◌, ℕ, ◌+◌, ◌<◌, ◌≤◌, leb, length, drop, set};
 ghost use Rattle.flat_json.specs.Table.{RightTable, run};
-ghost use Rattle.flat_json.specs.Tree.{is_digit, all, Piece, Entry, GoodEntry, Tree, Good, text as treeText};
+ghost use Rattle.flat_json.specs.Tree.{is_digit, all, Piece, Entry, GoodEntry, Tree, Good, text as tree_text};
 ghost use Rattle.pe_header.specs.Find.{units, same_units, decimal, list};
 ghost use Rattle.pe_header.specs.Names.{NameAt};
 ghost use Rattle.pe_header.specs.Members.{name_text, value_from, IsEnd, ReadRight, SoFar, AllRead};
@@ -167,7 +167,7 @@ fn next_member(table: &[u8; 3840], text: &[u8], name: &[u8], walk: Walk, names: 
 pub(crate) fn read_members(table: &[u8; 3840], text: &[u8], name: &[u8], names: &mut [u16]) -> Walk
     requires { RightTable table.now × (length text.now ≤ 4096) }
     ensures state_value { result.at.state ≡ run table.now 0 text.now }
-    ensures all_read { (t : Tree) → Good t → treeText t ≡ text.now → length (list t.inside) ≤ length names.old
+    ensures all_read { (t : Tree) → Good t → tree_text t ≡ text.now → length (list t.inside) ≤ length names.old
         → AllRead name.now (length t.before + 1) (list t.inside) names.new result }
 {
     let start = Spot {

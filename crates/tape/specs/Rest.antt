@@ -19,8 +19,8 @@ moved block from to = put block 0 (part from (to - from) block)
 
 -- "36 for an unknown command byte .. and the play stops", whatever is behind it; else the play is over where no more bytes come.
 abbrev pub is_over : Reply ℕ → Bool → Bool
-is_over (granted n) nothing-more = nothing-more
-is_over (refused number value) nothing-more = nothing-more || eqb number 36
+is_over (granted n) nothing_more = nothing_more
+is_over (refused number value) nothing_more = nothing_more || eqb number 36
 
 -- What is left to be played is all that was not, and it stands at the block's front.
 abbrev pub Kept : List ℕ → ℕ → ℕ → Bool → Turn → List ℕ → Type 0
@@ -30,6 +30,6 @@ Kept block from to over Turn.Failed after = after ≡ block
 
 -- A block's first bytes are played: table and lines are those of `play`, and nothing more comes where nothing came and nothing was played.
 abbrev pub BlockPlayed : Memory → List ℕ → ℕ → Bool → List ℕ → Turn → Memory → List ℕ → List ℕ → Type 0
-BlockPlayed m block len nothing-came out turn m' block' out' =
+BlockPlayed m block len nothing_came out turn m' block' out' =
     let p = play_call m (take len block) out in
-    (m' ≡ p.memory) × (out' ≡ p.out) × Kept block p.next len (is_over p.stop (nothing-came && eqb p.next 0)) turn block'
+    (m' ≡ p.memory) × (out' ≡ p.out) × Kept block p.next len (is_over p.stop (nothing_came && eqb p.next 0)) turn block'
