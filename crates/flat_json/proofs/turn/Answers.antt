@@ -1,5 +1,5 @@
 use mathlib.Core.Path.{refl, sym, ap, ◌∙◌}
-use Prim.Native.Nat.{◌+◌, ◌-◌}
+use Prim.Native.Nat.{◌+◌}
 use Rattle.flat_json.specs.Table.{spot, turned}
 use Rattle.flat_json.proofs.WalkLaws.{turned_next, turned_other, turned_end}
 use borrow.Author.Rules.{rules}

@@ -33,7 +33,7 @@ returns-then-not-walk c =
 pub stands_twice-requires : goal.stands_twice-requires
 stands_twice-requires c =
     let r = the_tree (goal.at.stands_twice-requires c).Else-walk-ne-DONE in
-    let l = c.names-1.given in
+    let l = c.read_members-walk.auto.names in
     let m = c.requires.3 in
     let k = r.room in
     (c.requires.0, r.room, omega arith)

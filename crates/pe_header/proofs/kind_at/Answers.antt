@@ -1,6 +1,5 @@
 use mathlib.Core.Path.{sym, ap}
 use native.Mathlib.Omega.{arith}
-use borrow.Author.Tests.{ne_eqb}
 use Rattle.pe_header.specs.Members.{kind_at}
 use Rattle.pe_header.proofs.kind_at.Goals as goal
 

@@ -3,7 +3,6 @@ use Prim.Native.Nat.{◌<◌}
 use lib.ListN.{length}
 use native.Mathlib.Omega.{arith}
 use borrow.Author.Rules.{rules}
-use borrow.Author.Tests.{not-true, not-false}
 use Rattle.syx.proofs.WalkLaws.{none_there, torn_there, listed_there}
 use Rattle.syx.proofs.next_message.Goals as goal
 
@@ -26,7 +25,7 @@ returns-then-not-is_end c =
     let f = c.find_start-start in
     let g = c.find_status-end in
     let h : f.result < length a.file.now = omega arith in
-    let e = sym c.is_end.ensures ∙ not-true _ c.if-not-is_end.true-raw in record { from_lt_from = (omega arith, g.ensures.0, omega arith, omega arith); lengths_after = torn_there a.file.now a.room t.from f.result t.messages t.torn a.places.now a.lengths.now f.ensures.1 h g.result g.ensures.1 e }
+    let e = sym c.is_end.ensures ∙ c.if-not-is_end.true in record { from_lt_from = (omega arith, g.ensures.0, omega arith, omega arith); lengths_after = torn_there a.file.now a.room t.from f.result t.messages t.torn a.places.now a.lengths.now f.ensures.1 h g.result g.ensures.1 e }
 
 pub returns : goal.returns
 returns c =
@@ -36,7 +35,7 @@ returns c =
     let g = c.find_status-end in
     let h : f.result < length a.file.now = omega arith in
     let e = sym c.is_end.ensures
-    ∙ not-false _ c.if-not-is_end.false-raw in record {
+    ∙ c.if-not-is_end.false in record {
       from_lt_from = (omega arith, g.ensures.0, omega arith, omega arith);
       lengths_after = listed_there a.file.now a.room t.from f.result t.messages t.torn a.places.now a.lengths.now f.ensures.1 h g.result g.ensures.1 e
           c.store.ensures

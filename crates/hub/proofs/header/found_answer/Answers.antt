@@ -13,8 +13,8 @@ tells a = found_answer_of (found_told a)
 
 pub returns-in-Value : goal.returns-in-Value
 returns-in-Value c =
-    let v = c.a-1.given in
-    matched tells v.1 (ap (λ (n : ℕ). record { refusal = 0; kind = n; place = v.0.1.0; length = v.0.1.1.0 }) c.kind_number.ensures)
+    let v = c.in-Value in
+    matched tells v.is (ap (λ (n : ℕ). record { refusal = 0; kind = n; place = v.place; length = v.length }) c.kind_number.ensures)
 
 pub returns-in-Absent : goal.returns-in-Absent
 returns-in-Absent c = matched tells c.in-Absent.is refl

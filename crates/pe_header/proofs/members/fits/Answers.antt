@@ -1,6 +1,4 @@
 use mathlib.Core.Path.{refl}
-use mathlib.Core.Bool.{true}
-use Prim.Native.Nat.{◌-◌}
 use native.Mathlib.Omega.{arith}
 use Rattle.pe_header.proofs.NumberLaws.{next_digit, too_large, all_read}
 use borrow.Author.Rules.{rules}

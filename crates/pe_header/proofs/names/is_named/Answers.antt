@@ -1,5 +1,5 @@
 use mathlib.Core.Bool.{false}
-use Prim.Native.Nat.{◌-◌, ◌<◌}
+use Prim.Native.Nat.{◌<◌}
 use lib.ListN.{get_or}
 use native.Mathlib.Omega.{arith}
 use borrow.Author.Rules.{rules}
@@ -16,7 +16,7 @@ returns-then-k-name c =
     l.invariant.1 _ (named_over a.text.now l.i _ _ c.unit_at-a.ensures.unit_at a.name.now l.k c.if-k-name.true)
 
 pub overflow_cast-name : goal.overflow_cast-name
-overflow_cast-name c = omega (arith, c.shared_slice_known-in-loop-i-1.given c.loop-i.k)
+overflow_cast-name c = omega (arith, c.type_inv.name c.loop-i.k)
 
 pub returns-then-a-name : goal.returns-then-a-name
 returns-then-a-name c =
@@ -29,7 +29,7 @@ pub loop-i-preserved : goal.loop-i-preserved
 loop-i-preserved c =
     let a = c.args in
     let l = c.loop-i in
-    let b : get_or a.name.now l.k 0 < 256 = omega (arith, c.shared_slice_known-in-loop-i-1.given l.k) in
+    let b : get_or a.name.now l.k 0 < 256 = omega (arith, c.type_inv.name l.k) in
     let u = c.unit_at-a.ensures.unit_at in
     (search rules, λ t h. l.invariant.1 t (named_on a.text.now l.i _ _ u a.name.now l.k (omega arith) b c.if-a-name.false t h))
 

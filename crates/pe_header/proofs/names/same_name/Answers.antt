@@ -1,5 +1,4 @@
 use mathlib.Core.Bool.{true, false}
-use Prim.Native.Nat.{◌-◌}
 use native.Mathlib.Omega.{arith}
 use Rattle.pe_header.proofs.NameLaws.{name_inside, same_not, same_over, same_on}
 use Rattle.pe_header.proofs.names.same_name.Goals as goal

@@ -1,14 +1,9 @@
-use mathlib.Core.Bool.{Bool, true, false}
-use mathlib.Core.List.{List}
-use mathlib.Core.Path.{◌≡◌, sym, ◌∙◌}
-use Prim.Native.Nat.{ℕ, ◌-◌, ◌≤◌, ◌<◌}
-use lib.ListN.{length, take, get_or}
-use lib.Seq.{slice}
+use mathlib.Core.Bool.{true, false}
+use mathlib.Core.Path.{sym, ◌∙◌}
+use Prim.Native.Nat.{◌-◌, ◌≤◌, ◌<◌}
+use lib.ListN.{length, get_or}
 use native.Mathlib.Omega.{arith}
 use borrow.Author.Rules.{rules}
-use Rattle.flat_json.specs.Tree.{Piece}
-use Rattle.pe_header.specs.Find.{units}
-use Rattle.pe_header.specs.Names.{NameAt, print_of, IsAmong}
 use Rattle.pe_header.proofs.EntryLaws.{seen_here, other_name, others_passed, seen_none}
 use Rattle.pe_header.proofs.names.seen.Invariants.{Whole}
 use Rattle.pe_header.proofs.names.seen.Goals as goal
@@ -35,10 +30,10 @@ returns-then-at-k c =
     (seen_none a.text.now a.names.now a.prints.now a.k c.next_equal-at.result c.if-at-k.true ps)
 
 pub overflow_cast-names : goal.overflow_cast-names
-overflow_cast-names c = omega (arith, c.shared_slice_known-in-loop-j-1.given c.next_equal-at.result)
+overflow_cast-names c = omega (arith, c.type_inv.names c.next_equal-at.result)
 
 pub overflow_cast-names-in-loop-j : goal.overflow_cast-names-in-loop-j
-overflow_cast-names-in-loop-j c = omega (arith, c.shared_slice_known-in-loop-j-2-1.given c.args.k)
+overflow_cast-names-in-loop-j c = omega (arith, c.type_inv.names c.args.k)
 
 pub returns-then-same_name : goal.returns-then-same_name
 returns-then-same_name c =

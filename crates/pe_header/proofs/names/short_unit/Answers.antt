@@ -1,7 +1,6 @@
 use mathlib.Core.Path.{sym, ap}
 use native.Mathlib.Omega.{arith}
 use borrow.Author.Rules.{rules}
-use borrow.Author.Tests.{ne_eqb}
 use Rattle.pe_header.specs.Find.{short_unit}
 use Rattle.pe_header.proofs.names.short_unit.Goals as goal
 

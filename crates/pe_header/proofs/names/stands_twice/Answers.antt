@@ -1,6 +1,6 @@
 use mathlib.Core.Bool.{true, false}
 use mathlib.Core.Path.{◌≡◌, refl, sym, ◌∙◌}
-use Prim.Native.Nat.{◌-◌, ◌≤◌}
+use Prim.Native.Nat.{◌≤◌}
 use lib.ListN.{length, take, length-set}
 use native.Mathlib.Omega.{arith}
 use borrow.Author.Rules.{rules}
@@ -13,7 +13,7 @@ loop-k-init c =
     (search rules, refl, twice_all a.text.now (take a.count a.names.now))
 
 pub overflow_cast-names : goal.overflow_cast-names
-overflow_cast-names c = omega (arith, c.shared_slice_known-in-loop-k-1.given c.loop-k.k)
+overflow_cast-names c = omega (arith, c.type_inv.names c.loop-k.k)
 
 pub returns-then-seen : goal.returns-then-seen
 returns-then-seen c =

@@ -5,13 +5,13 @@ use Rattle.pe_header.proofs.UnitLaws.{first_state_law, unit_plain, unit_escaped,
 use Rattle.pe_header.proofs.names.unit_at.Goals as goal
 
 pub overflow_cast-result : goal.overflow_cast-result
-overflow_cast-result c = omega (arith, c.shared_slice_known-2-1.given c.args.at)
+overflow_cast-result c = omega (arith, c.type_inv.text c.args.at)
 
 pub returns-then-state-eq-IN_NAME : goal.returns-then-state-eq-IN_NAME
 returns-then-state-eq-IN_NAME c =
     let a = c.args in
     let t = sym c.step-state.ensures ∙ c.if-state-eq-IN_NAME.true in
-    let f = first_state_law a.table.now c.requires.0 a.text.now a.at in record { at_lt_next = omega (arith, c.shared_slice_known-2-1.given a.at); unit_at = λ ps m. unit_plain a.text.now a.at ps m (sym (f ps m) ∙ t) }
+    let f = first_state_law a.table.now c.requires.0 a.text.now a.at in record { at_lt_next = omega (arith, c.type_inv.text a.at); unit_at = λ ps m. unit_plain a.text.now a.at ps m (sym (f ps m) ∙ t) }
 
 pub returns-then-state-eq-NAME_ESCAPE : goal.returns-then-state-eq-NAME_ESCAPE
 returns-then-state-eq-NAME_ESCAPE c =

@@ -1,5 +1,4 @@
 use mathlib.Core.Path.{refl, sym, ◌∙◌}
-use Prim.Native.Nat.{◌-◌}
 use lib.ListN.{drop_of_length-le}
 use borrow.Author.Rules.{rules}
 use Rattle.syx.proofs.ScanLaws.{asked_next, asked_all}
