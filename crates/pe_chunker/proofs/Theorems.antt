@@ -2,7 +2,7 @@
 -- Assumes nothing.
 use Prim.Native.Nat.{ℕ, suc, ◌+◌, ◌-◌, ◌*◌, ◌/◌, min, ◌<◌, ◌≤◌}
 use mathlib.Core.Bool.{true}
-use mathlib.Core.List.{List, [], ◌∷◌, ◌++◌}
+use mathlib.Core.List.{List, [], ◌∷◌}
 use mathlib.Core.Path.{◌≡◌, refl, sym, ap, ◌∙◌}
 use native.Mathlib.Omega.{arith}
 use lib.ListN.{length, get_or, length-append}
@@ -10,7 +10,7 @@ use lib.Seq.{take-nil}
 use Rattle.seven_bit.specs.Parts.{joined}
 use Rattle.seven_bit.specs.Reply.{granted}
 use Rattle.seven_bit.specs.SevenBit.{is_seven_bit}
-use Rattle.midici_core.specs.Header.{Header, bytes_of_header}
+use Rattle.midici_core.specs.Header.{Header}
 use Rattle.midici_core.proofs.HeaderLaws.{header_length}
 use Rattle.pe_frame.specs.Chunk.{Chunk, chunk_from, read_fields, chunk_of}
 use Rattle.pe_frame.specs.Write.{chunk_bytes, chunk_len}

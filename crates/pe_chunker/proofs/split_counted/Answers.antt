@@ -22,10 +22,6 @@ size : (c : After-put_piece-len) → c.put_piece-len.result ≡ 9 + length ((let
 unfolding chunk_len
 size c = c.put_piece-len.ensures.0
 
--- the number was asked
-within : (c : After-put_piece-len) → let a = c.args in a.chunk_num ≤ length (body_pieces a.max_sysex (length a.header.now) a.body.now)
-within c = omega (arith, ((count_told _ _ _ _ _ (sym c.chunk_count.ensures ∙ ap chunk_count_told c.in-Chunks.is))).1, c.if-chunk_num-num_chunks.false)
-
 in_range_law : (c : After-put_piece-len) → InRange ((let a = c.args in chunk_at a.request_id a.header.now a.body.now a.max_sysex a.chunk_num))
 in_range_law c = chunk_in_range _ _ _ _ _ ((count_told _ _ _ _ _ (sym c.chunk_count.ensures ∙ ap chunk_count_told c.in-Chunks.is))).0 c.if-chunk_num-lt1.false ((omega (arith, ((count_told _ _ _ _ _ (sym c.chunk_count.ensures ∙ ap chunk_count_told c.in-Chunks.is))).1, c.if-chunk_num-num_chunks.false)))
 

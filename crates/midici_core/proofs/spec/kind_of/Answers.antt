@@ -4,9 +4,6 @@ use Rattle.midici_core.specs.Kinds.{kind_table}
 use Rattle.midici_core.proofs.KindLaws.{found_here, found_next, found_none, table_rule}
 use Rattle.midici_core.proofs.spec.kind_of.Goals as goal
 
-pub loop-i-init : goal.loop-i-init
-loop-i-init c = (search rules, refl)
-
 pub returns-then-k-sub_id2 : goal.returns-then-k-sub_id2
 unfolding kind_table
 returns-then-k-sub_id2 c =

@@ -1,4 +1,4 @@
-use mathlib.Core.Path.{sym, ap, ◌∙◌}
+use mathlib.Core.Path.{ap, ◌∙◌}
 use Prim.Native.Nat.{◌-◌, ◌≤◌}
 use lib.ListN.{length}
 use lib.Seq.{length-take-le}
@@ -33,27 +33,6 @@ pub body_part-end-requires : goal.body_part-end-requires
 body_part-end-requires c =
     let h = later_between c.args.max_sysex in
     omega arith
-
-pub overflow_add-len : goal.overflow_add-len
-overflow_add-len c = let h = head c in omega arith
-
-pub overflow_sub-len : goal.overflow_sub-len
-overflow_sub-len c = let h = ends c in omega arith
-
-pub overflow_add-len-2 : goal.overflow_add-len-2
-overflow_add-len-2 c =
-    let h = head c in
-    let e = ends c in
-    omega (arith, c.requires.cut.fits, later_between c.args.max_sysex)
-
-pub slice_bounds-put_chunk-end : goal.slice_bounds-put_chunk-end
-slice_bounds-put_chunk-end c = sym (length-take-le _ c.args.header.now (head c))
-
-pub slice_bounds-put_chunk-count : goal.slice_bounds-put_chunk-count
-slice_bounds-put_chunk-count c = let h = ends c in omega arith
-
-pub slice_bounds-put_chunk-start : goal.slice_bounds-put_chunk-start
-slice_bounds-put_chunk-start c = let h = ends c in omega arith
 
 pub returns : goal.returns
 unfolding chunk_len

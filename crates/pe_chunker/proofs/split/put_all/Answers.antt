@@ -1,12 +1,11 @@
-use Prim.Native.Nat.{ℕ, ◌+◌, ◌-◌, ◌<◌, ◌≤◌}
-use mathlib.Core.List.{map}
-use mathlib.Core.Path.{◌≡◌, refl, sym, ap, ◌∙◌}
+use Prim.Native.Nat.{◌+◌, ◌<◌, ◌≤◌}
+use mathlib.Core.Path.{◌≡◌, refl, sym, ◌∙◌}
 use native.Mathlib.Omega.{arith}
 use lib.ListN.{length}
-use Rattle.seven_bit.specs.Parts.{put, joined}
-use Rattle.seven_bit.proofs.PartLaws.{put_none, length_put}
+use Rattle.seven_bit.specs.Parts.{joined}
+use Rattle.seven_bit.proofs.PartLaws.{put_none}
 use Rattle.pe_frame.specs.Write.{chunk_len}
-use Rattle.pe_chunker.specs.Cut.{max_sysex_max, body_pieces, chunk_at}
+use Rattle.pe_chunker.specs.Cut.{max_sysex_max, chunk_at}
 use Rattle.pe_chunker.specs.Split.{first_chunks}
 use Rattle.pe_chunker.proofs.CutLaws.{budget_between}
 use Rattle.pe_chunker.proofs.ChunkLaws.{chunk_short}
@@ -46,18 +45,8 @@ next-at c =
 pub loop-k-init : goal.loop-k-init
 loop-k-init c = (omega arith, unfold first_chunks joined in refl, unfold first_chunks joined in sym (put_none _ 0), unfold first_chunks in sym (put_none _ 0))
 
-pub put_piece-len-requires : goal.put_piece-len-requires
-put_piece-len-requires c =
-    record { cut = c.requires.cut; body_len = (c.requires.body_len.0, omega arith, omega (arith, c.loop-k-test.true)) }
-
 pub overflow_cast-lengths : goal.overflow_cast-lengths
 overflow_cast-lengths c = let h = short (goal.at.overflow_cast-lengths c).After-put_piece-len in omega arith
-
-pub bounds-lengths-k : goal.bounds-lengths-k
-bounds-lengths-k c =
-    let n = c.requires.body_len.2 in
-    let e = ap length c.loop-k.invariant.3 ∙ length_put c.args.lengths.now 0 _ in
-    omega (arith, n, e, c.loop-k-test.true)
 
 pub overflow_add-at : goal.overflow_add-at
 overflow_add-at c =
@@ -75,14 +64,4 @@ loop-k-preserved c =
       next-at w,
       r.1 ∙ next_put a.request_id a.header.now a.body.now a.max_sysex l.k _ a.out.now _ l.invariant.1 l.invariant.2 (fits w),
       next_column a.request_id a.header.now a.body.now a.max_sysex l.k _ a.lengths.now _ r.0 l.invariant.3,
-    )
-
-pub returns : goal.returns
-returns c =
-    let l = c.loop-k in
-    let a = c.args in
-    let e : l.k ≡ length (body_pieces a.max_sysex (length a.header.now) a.body.now) =
-    omega (arith, l.invariant.0, c.loop-k-test.false, c.requires.body_len.0) in (
-      l.invariant.2 ∙ ap (λ (k : ℕ). put a.out.now 0 (joined (first_chunks a.request_id a.header.now a.body.now a.max_sysex k))) e,
-      l.invariant.3 ∙ ap (λ (k : ℕ). put a.lengths.now 0 (map length (first_chunks a.request_id a.header.now a.body.now a.max_sysex k))) e,
     )

@@ -6,9 +6,3 @@ use Rattle.pe_frame.proofs.frame.decode_fields.Goals as goal
 pub returns-then-data-lt-PE_FRAMING_LEN : goal.returns-then-data-lt-PE_FRAMING_LEN
 unfolding read_fields
 returns-then-data-lt-PE_FRAMING_LEN c = rw (lt-leb _ _ c.if-data-lt-PE_FRAMING_LEN.true)
-
-pub high_byte-requires : goal.high_byte-requires
-high_byte-requires c = (c.if-data-lt-PE_FRAMING_LEN.false, sym c.all_low.ensures ∙ c.if-not-all_low.true)
-
-pub decode_low-requires : goal.decode_low-requires
-decode_low-requires c = (c.if-data-lt-PE_FRAMING_LEN.false, sym c.all_low.ensures ∙ c.if-not-all_low.false)

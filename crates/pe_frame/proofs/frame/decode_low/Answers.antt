@@ -13,21 +13,21 @@ use Rattle.pe_frame.proofs.ChunkLaws.{low_short, low_fields}
 use Rattle.pe_frame.proofs.frame.decode_low.Goals as goal
 use Rattle.pe_frame.proofs.frame.decode_low.Goals.{After-u14_at-nd, Joined-chunk_num-ne1, Start, then-chunk_num-ne1+else-nh-ne0, else-chunk_num-ne1}
 
-all : (c : Start) → is_seven_bit (take (length ((c.args.«data».now))) ((c.args.«data».now))) ≡ true
-all c = seven_bit_take (length ((c.args.«data».now))) ((c.args.«data».now)) c.requires.1
+all : (c : Start) → is_seven_bit (take (length c.args.«data».now) c.args.«data».now) ≡ true
+all c = seven_bit_take (length c.args.«data».now) c.args.«data».now c.requires.1
 
 behind : (c : After-u14_at-nd)
-    → read_fields ((c.args.«data».now)) ≡ read_end ((c.args.«data».now)) ((c.u14_at-nh.result)) c.u14_at-num_chunks.result c.u14_at-chunk_num.result c.u14_at-nd.result
+    → read_fields c.args.«data».now ≡ read_end c.args.«data».now c.u14_at-nh.result c.u14_at-num_chunks.result c.u14_at-chunk_num.result c.u14_at-nd.result
 behind c =
     let l = c.if-data-property_at.false in
-    low_fields ((c.args.«data».now)) c.requires.0 (length ((c.args.«data».now))) ((seven_bit_take (length ((c.args.«data».now))) ((c.args.«data».now)) c.requires.1)) _ _ _ _ l c.u14_at-nh.ensures l
+    low_fields c.args.«data».now c.requires.0 (length c.args.«data».now) (seven_bit_take (length c.args.«data».now) c.args.«data».now c.requires.1) _ _ _ _ l c.u14_at-nh.ensures l
     c.u14_at-num_chunks.ensures c.u14_at-chunk_num.ensures c.u14_at-nd.ensures
 
-property : (c : After-u14_at-nd) → is_seven_bit (part (9 + (c.u14_at-nh.result)) c.u14_at-nd.result ((c.args.«data».now))) ≡ true
-property c = seven_bit_part (9 + (c.u14_at-nh.result)) c.u14_at-nd.result ((c.args.«data».now)) c.requires.1
+property : (c : After-u14_at-nd) → is_seven_bit (part (9 + c.u14_at-nh.result) c.u14_at-nd.result c.args.«data».now) ≡ true
+property c = seven_bit_part (9 + c.u14_at-nh.result) c.u14_at-nd.result c.args.«data».now c.requires.1
 
 -- number 1, or no header
-first : (c : Joined-chunk_num-ne1) → (eqb c.u14_at-chunk_num.result 1 || eqb ((c.u14_at-nh.result)) 0) ≡ true
+first : (c : Joined-chunk_num-ne1) → (eqb c.u14_at-chunk_num.result 1 || eqb c.u14_at-nh.result 0) ≡ true
 first c =
     elim c.if-chunk_num-ne1.branch [
       | then-chunk_num-ne1+else-nh-ne0 w ↦ rw (eq-eqb _ _ w.if-nh-ne0.false) (or-true (eqb c.u14_at-chunk_num.result 1))
@@ -36,7 +36,7 @@ first c =
 
 pub returns-then-data-property_at : goal.returns-then-data-property_at
 returns-then-data-property_at c =
-    sym (low_short ((c.args.«data».now)) c.requires.0 (length ((c.args.«data».now))) (all (goal.at.returns-then-data-property_at c).Start) _ (omega (arith, c.requires.0)) c.u14_at-nh.ensures c.if-data-property_at.true)
+    sym (low_short c.args.«data».now c.requires.0 (length c.args.«data».now) (all (goal.at.returns-then-data-property_at c).Start) _ (omega (arith, c.requires.0)) c.u14_at-nh.ensures c.if-data-property_at.true)
 
 pub returns-then-data-property_at-2 : goal.returns-then-data-property_at-2
 unfolding read_end

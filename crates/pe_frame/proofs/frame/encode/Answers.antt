@@ -12,33 +12,30 @@ use Rattle.pe_frame.proofs.frame.encode.Goals as goal
 use Rattle.pe_frame.proofs.frame.encode.Goals.{In-Bytes}
 
 -- what the questions' answer tells
-told : (c : In-Bytes) → InRange ((chunk_from c.args.request_id c.args.header.now c.args.num_chunks c.args.chunk_num c.args.property.now)) × (granted ((9 + length c.args.header.now + length c.args.property.now)) ≡ granted c.in-Bytes.n)
-told c = ask_told ((chunk_from c.args.request_id c.args.header.now c.args.num_chunks c.args.chunk_num c.args.property.now)) _ _ (sym c.questions.ensures ∙ ap chunk_len_told c.in-Bytes.is)
+told : (c : In-Bytes) → InRange (chunk_from c.args.request_id c.args.header.now c.args.num_chunks c.args.chunk_num c.args.property.now) × (granted (9 + length c.args.header.now + length c.args.property.now) ≡ granted c.in-Bytes.n)
+told c = ask_told (chunk_from c.args.request_id c.args.header.now c.args.num_chunks c.args.chunk_num c.args.property.now) _ _ (sym c.questions.ensures ∙ ap chunk_len_told c.in-Bytes.is)
 
 need : (c : In-Bytes) → (9 + length c.args.header.now + length c.args.property.now) ≡ c.in-Bytes.n
-need c = same_grant _ _ _ refl ((ask_told ((chunk_from c.args.request_id c.args.header.now c.args.num_chunks c.args.chunk_num c.args.property.now)) _ _ (sym c.questions.ensures ∙ ap chunk_len_told c.in-Bytes.is))).1
+need c = same_grant _ _ _ refl (ask_told (chunk_from c.args.request_id c.args.header.now c.args.num_chunks c.args.chunk_num c.args.property.now) _ _ (sym c.questions.ensures ∙ ap chunk_len_told c.in-Bytes.is)).1
 
 pub returns-in-Refused : goal.returns-in-Refused
 returns-in-Refused c =
     let e = sym c.questions.ensures ∙ ap chunk_len_told c.in-Refused.is in
-    rw (write_refused ((chunk_from c.args.request_id c.args.header.now c.args.num_chunks c.args.chunk_num c.args.property.now)) _ _ _ _ e)
+    rw (write_refused (chunk_from c.args.request_id c.args.header.now c.args.num_chunks c.args.chunk_num c.args.property.now) _ _ _ _ e)
 
 pub returns-then-out-need : goal.returns-then-out-need
 returns-then-out-need c =
-    rw (write_short ((chunk_from c.args.request_id c.args.header.now c.args.num_chunks c.args.chunk_num c.args.property.now)) (length c.args.out.now) (told (goal.at.returns-then-out-need c).In-Bytes).0 (omega (arith, need (goal.at.returns-then-out-need c).In-Bytes, c.if-out-need.true)))
+    rw (write_short (chunk_from c.args.request_id c.args.header.now c.args.num_chunks c.args.chunk_num c.args.property.now) (length c.args.out.now) (told (goal.at.returns-then-out-need c).In-Bytes).0 (omega (arith, need (goal.at.returns-then-out-need c).In-Bytes, c.if-out-need.true)))
 
 pub fill-requires : goal.fill-requires
 fill-requires c =
     let r = (told (goal.at.fill-requires c).In-Bytes).0 in
     (r.header_len, r.property_len, r.count, r.number, omega (arith, need (goal.at.fill-requires c).In-Bytes, c.if-out-need.false))
 
-pub shape_of-out : goal.shape_of-out
-shape_of-out c = ap length c.fill.ensures ∙ length_put c.args.out.now _ _
-
 pub returns : goal.returns
 unfolding chunk_len
 returns c =
-    let l = chunk_length ((chunk_from c.args.request_id c.args.header.now c.args.num_chunks c.args.chunk_num c.args.property.now)) in
+    let l = chunk_length (chunk_from c.args.request_id c.args.header.now c.args.num_chunks c.args.chunk_num c.args.property.now) in
     let room = c.if-out-need.false in
-    rw (write_granted ((chunk_from c.args.request_id c.args.header.now c.args.num_chunks c.args.chunk_num c.args.property.now)) (length c.args.out.now) (told (goal.at.returns c).In-Bytes).0 (omega (arith, need (goal.at.returns c).In-Bytes, room)))
-    (wrote (chunk_bytes ((chunk_from c.args.request_id c.args.header.now c.args.num_chunks c.args.chunk_num c.args.property.now))) c.args.out.now _ _ (l ∙ need (goal.at.returns c).In-Bytes) (c.fill.ensures ∙ put_front c.args.out.now (chunk_bytes ((chunk_from c.args.request_id c.args.header.now c.args.num_chunks c.args.chunk_num c.args.property.now))) (omega (arith, l, need (goal.at.returns c).In-Bytes, room))))
+    rw (write_granted (chunk_from c.args.request_id c.args.header.now c.args.num_chunks c.args.chunk_num c.args.property.now) (length c.args.out.now) (told (goal.at.returns c).In-Bytes).0 (omega (arith, need (goal.at.returns c).In-Bytes, room)))
+    (wrote (chunk_bytes (chunk_from c.args.request_id c.args.header.now c.args.num_chunks c.args.chunk_num c.args.property.now)) c.args.out.now _ _ (l ∙ need (goal.at.returns c).In-Bytes) (c.fill.ensures ∙ put_front c.args.out.now (chunk_bytes (chunk_from c.args.request_id c.args.header.now c.args.num_chunks c.args.chunk_num c.args.property.now)) (omega (arith, l, need (goal.at.returns c).In-Bytes, room))))

@@ -18,14 +18,14 @@ size id header count number property = chunk_length (chunk_from id header count 
 
 -- the numbers have 14 bits: what is left is whether it fits
 left : (c : Else-chunk_num-gt-U14_MAX)
-    → put_chunk ((chunk_from c.args.request_id c.args.header.now c.args.num_chunks c.args.chunk_num c.args.property.now)) c.args.out.now c.args.at
-    ≡ put_fit c.args.out.now c.args.at (chunk_bytes ((chunk_from c.args.request_id c.args.header.now c.args.num_chunks c.args.chunk_num c.args.property.now)))
-left c = put_small ((chunk_from c.args.request_id c.args.header.now c.args.num_chunks c.args.chunk_num c.args.property.now)) _ _ c.if-header.false c.if-property.false c.if-num_chunks-gt-U14_MAX.false c.if-chunk_num-gt-U14_MAX.false
+    → put_chunk (chunk_from c.args.request_id c.args.header.now c.args.num_chunks c.args.chunk_num c.args.property.now) c.args.out.now c.args.at
+    ≡ put_fit c.args.out.now c.args.at (chunk_bytes (chunk_from c.args.request_id c.args.header.now c.args.num_chunks c.args.chunk_num c.args.property.now))
+left c = put_small (chunk_from c.args.request_id c.args.header.now c.args.num_chunks c.args.chunk_num c.args.property.now) _ _ c.if-header.false c.if-property.false c.if-num_chunks-gt-U14_MAX.false c.if-chunk_num-gt-U14_MAX.false
 
 short : (c : Else-chunk_num-gt-U14_MAX) → let a = c.args in length a.out.now < a.at + (9 + length a.header.now + length a.property.now)
-    → put_chunk ((chunk_from c.args.request_id c.args.header.now c.args.num_chunks c.args.chunk_num c.args.property.now)) a.out.now a.at ≡ a.out.now
+    → put_chunk (chunk_from c.args.request_id c.args.header.now c.args.num_chunks c.args.chunk_num c.args.property.now) a.out.now a.at ≡ a.out.now
 short c h =
-    (put_small ((chunk_from c.args.request_id c.args.header.now c.args.num_chunks c.args.chunk_num c.args.property.now)) _ _ c.if-header.false c.if-property.false c.if-num_chunks-gt-U14_MAX.false c.if-chunk_num-gt-U14_MAX.false) ∙ fit_no c.args.out.now c.args.at (chunk_bytes ((chunk_from c.args.request_id c.args.header.now c.args.num_chunks c.args.chunk_num c.args.property.now))) (omega (arith, size c.args.request_id c.args.header.now c.args.num_chunks c.args.chunk_num c.args.property.now, h))
+    (put_small (chunk_from c.args.request_id c.args.header.now c.args.num_chunks c.args.chunk_num c.args.property.now) _ _ c.if-header.false c.if-property.false c.if-num_chunks-gt-U14_MAX.false c.if-chunk_num-gt-U14_MAX.false) ∙ fit_no c.args.out.now c.args.at (chunk_bytes (chunk_from c.args.request_id c.args.header.now c.args.num_chunks c.args.chunk_num c.args.property.now)) (omega (arith, size c.args.request_id c.args.header.now c.args.num_chunks c.args.chunk_num c.args.property.now, h))
 
 pub returns-then-header : goal.returns-then-header
 unfolding put_chunk
@@ -50,22 +50,10 @@ returns-then-out-at c = sym (short (goal.at.returns-then-out-at c).Else-chunk_nu
 pub returns-then-out-at-2 : goal.returns-then-out-at-2
 returns-then-out-at-2 c = sym (short (goal.at.returns-then-out-at-2 c).Else-chunk_num-gt-U14_MAX (omega (arith, c.if-out-at-2.true, c.if-out-at.false)))
 
-pub fill-requires : goal.fill-requires
-fill-requires c = (
-  c.if-header.false,
-  c.if-property.false,
-  c.if-num_chunks-gt-U14_MAX.false,
-  c.if-chunk_num-gt-U14_MAX.false,
-  omega (arith, c.if-out-at-2.false, c.if-out-at.false),
-)
-
-pub shape_of-out : goal.shape_of-out
-shape_of-out c = ap length c.fill.ensures ∙ length_put c.args.out.now _ _
-
 pub returns : goal.returns
 returns c =
     let l = size c.args.request_id c.args.header.now c.args.num_chunks c.args.chunk_num c.args.property.now in
     c.fill.ensures
     ∙ sym (left (goal.at.returns c).Else-chunk_num-gt-U14_MAX
-    ∙ fit_yes c.args.out.now c.args.at (chunk_bytes ((chunk_from c.args.request_id c.args.header.now c.args.num_chunks c.args.chunk_num c.args.property.now)))
+    ∙ fit_yes c.args.out.now c.args.at (chunk_bytes (chunk_from c.args.request_id c.args.header.now c.args.num_chunks c.args.chunk_num c.args.property.now))
     (omega (arith, l, c.if-out-at-2.false, c.if-out-at.false)))

@@ -21,9 +21,3 @@ loop-i-preserved c =
       ap (λ (x : ℕ). is_seven_bit (set l.largest l.i x)) c.larger.ensures
           ∙ gathered_byte a.largest.now a.s.now l.largest a.at l.i l.invariant.2 (search rules) (search rules),
     )
-
-pub returns : goal.returns
-returns c =
-    let l = c.loop-i in
-    let e : l.i ≡ c.args.k = omega (arith, l.invariant.0, c.loop-i-test.false) in
-    l.invariant.2 ∙ ap (λ (k : ℕ). is_seven_bit c.args.largest.now && is_seven_bit (part c.args.at k c.args.s.now)) e

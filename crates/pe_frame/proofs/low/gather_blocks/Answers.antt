@@ -6,9 +6,6 @@ use Rattle.pe_frame.proofs.low.gather_blocks.Goals as goal
 pub loop-at-init : goal.loop-at-init
 loop-at-init c = (omega arith, c.requires.0, gathered_none c.args.largest.now c.args.s.now 0)
 
-pub gather-requires : goal.gather-requires
-gather-requires c = let l = c.loop-at in omega (arith, l.invariant.1, c.loop-at-test.true)
-
 pub loop-at-preserved : goal.loop-at-preserved
 loop-at-preserved c =
     let l = c.loop-at in
@@ -17,9 +14,6 @@ loop-at-preserved c =
       search rules,
       gathered_block a.largest.now a.s.now _ _ l.at 32 l.invariant.2 c.gather.ensures,
     )
-
-pub gather-requires-2 : goal.gather-requires-2
-gather-requires-2 c = let l = c.loop-at in omega (arith, l.invariant.1, c.requires.1)
 
 pub returns : goal.returns
 returns c =

@@ -18,9 +18,3 @@ pub loop-i-preserved : goal.loop-i-preserved
 loop-i-preserved c =
     let l = c.loop-i in
     (search rules, front_next c.args.s.now l.i (search rules) l.invariant.1 c.if-s-i-gt127.false)
-
-pub returns : goal.returns
-returns c =
-    let l = c.loop-i in
-    let e : length c.args.s.now ≤ l.i = omega (arith, c.requires, c.loop-i-test.false) in
-    sym (ap is_seven_bit (sym (take_all l.i c.args.s.now e)) ∙ l.invariant.1)

@@ -13,9 +13,6 @@ answer : (c : After-check_group-checked)
     → ask_text c.args.input.now ≡ and_next (encoded_told c.check_group-checked.result) (λ _. ask_text (drop c.group_end-end.result c.args.input.now))
 answer c = c.loop-i.invariant.1 ∙ check_next _ c.loop-i.i c.group_end-end.result _ (omega arith) (omega arith) c.check_group-checked.ensures
 
-pub loop-i-init : goal.loop-i-init
-loop-i-init c = (search rules, refl)
-
 pub returns-in_default : goal.returns-in_default
 returns-in_default c = sym (answer (goal.at.returns-in_default c).After-check_group-checked ∙ told_refused _ _ _ c.in_default.is)
 

@@ -16,12 +16,6 @@ loop-i-init c =
     let e = drop-length c.args.group.now in
     (search rules, rw e (sym (put_none _ _)), rw e, search rules, refl)
 
-pub overflow_mul-flags : goal.overflow_mul-flags
-overflow_mul-flags c = omega (arith, c.type_inv.group (c.loop-i.i - 1))
-
-pub overflow_add-flags : goal.overflow_add-flags
-overflow_add-flags c = omega (arith, c.type_inv.group (c.loop-i.i - 1))
-
 pub loop-i-preserved : goal.loop-i-preserved
 loop-i-preserved c =
     let a = c.args in

@@ -10,9 +10,6 @@ use Rattle.pe_mcoded7.proofs.groups.encode_into.Goals as goal
 pub loop-i-init : goal.loop-i-init
 loop-i-init c = (search rules, omega (arith, length_encoded c.args.input.now), refl, refl)
 
-pub encode_group-requires : goal.encode_group-requires
-encode_group-requires c = simp (length-take, length-drop) (omega arith)
-
 pub loop-i-preserved : goal.loop-i-preserved
 loop-i-preserved c =
     let l = c.loop-i in

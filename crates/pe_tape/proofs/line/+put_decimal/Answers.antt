@@ -1,4 +1,4 @@
-use Rattle.std.proofs.Common.{◌+◌, ◌<◌, arith}
+use Rattle.std.proofs.Common.{arith}
 use Rattle.pe_tape.proofs.LineLaws.{tenth_short, digit_put, last_digit_put}
 use Rattle.pe_tape.proofs.line.+put_decimal.Goals as goal
 

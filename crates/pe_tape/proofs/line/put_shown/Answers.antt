@@ -14,36 +14,10 @@ abbrev Put : List ℕ → ℕ → ℕ → List ℕ → Shown → Type 0
 Put out at behind after shown =
     (behind ≡ at + length (shown_text (shown_told shown))) × (behind ≤ at + 43) × (after ≡ put out at (shown_text (shown_told shown)))
 
-pub put_decimal-requires : goal.put_decimal-requires
-put_decimal-requires c =
-    omega (arith, c.requires)
-
-pub put_marked-requires : goal.put_marked-requires
-put_marked-requires c =
-    omega (arith, c.requires)
-
-pub put_whole-requires : goal.put_whole-requires
-put_whole-requires c =
-    omega (arith, c.requires)
-
 pub returns-in-Bare : goal.returns-in-Bare
 unfolding shown_text
 returns-in-Bare c =
     let a = c.args in
     let p = c.put_decimal in
     subst (Put a.out.now a.at p.result p.new.out) (sym c.in-Bare.is)
-    (p.ensures.0, omega (arith, p.ensures.1), p.ensures.2)
-
-pub returns-in-Marked : goal.returns-in-Marked
-returns-in-Marked c =
-    let a = c.args in
-    let p = c.put_marked in
-    subst (Put a.out.now a.at p.result p.new.out) (sym c.in-Marked.is)
-    (p.ensures.0, omega (arith, p.ensures.1), p.ensures.2)
-
-pub returns-in-Whole : goal.returns-in-Whole
-returns-in-Whole c =
-    let a = c.args in
-    let p = c.put_whole in
-    subst (Put a.out.now a.at p.result p.new.out) (sym c.in-Whole.is)
     (p.ensures.0, omega (arith, p.ensures.1), p.ensures.2)

@@ -1,11 +1,9 @@
-use mathlib.Core.Bool.{true}
-use mathlib.Core.Path.{◌≡◌, sym, ap, subst, ◌∙◌}
-use borrow.Author.Tests.{leb-true}
+use mathlib.Core.Path.{◌≡◌, sym, ap, ◌∙◌}
 use Rattle.pe_reassembler.specs.Feed.{memory}
 use Rattle.pe_reassembler.specs.Calls.{cancelled_told, count_told}
 use Rattle.pe_tape.specs.declared.command.Command.{Command}
 use Rattle.pe_tape.specs.Play.{Called, make_call}
-use Rattle.pe_tape.specs.Told.{command_of, lies}
+use Rattle.pe_tape.specs.Told.{command_of}
 use Rattle.pe_tape.proofs.CallLaws.{cancel_called, drop_called, poll_called}
 use Rattle.pe_tape.proofs.play.call.Goals as goal
 use Rattle.pe_tape.proofs.play.call.Goals.{Start}
@@ -14,14 +12,6 @@ use Rattle.pe_tape.proofs.play.call.Goals.{Start}
 told : (s : Start) (command : Command) (r : Called) → s.args.command ≡ command → r ≡ make_call ((let a = s.args in memory a.numbers.now a.index.now a.headers.now a.arenas.now a.out_header.now a.out_body.now)) (command_of s.args.tape.now command)
     → r ≡ make_call ((let a = s.args in memory a.numbers.now a.index.now a.headers.now a.arenas.now a.out_header.now a.out_body.now)) (command_of s.args.tape.now s.args.command)
 told s command r e h = h ∙ sym (ap (λ (c : Command). make_call ((let a = s.args in memory a.numbers.now a.index.now a.headers.now a.arenas.now a.out_header.now a.out_body.now)) (command_of s.args.tape.now c)) e)
-
-pub call_feed-requires : goal.call_feed-requires
-call_feed-requires c =
-    leb-true _ _ (subst (λ (d : Command). lies d c.args.tape.now ≡ true) c.in-Feed.is c.requires)
-
-pub returns-in-Feed : goal.returns-in-Feed
-returns-in-Feed c =
-    told (goal.at.returns-in-Feed c).Start _ _ c.in-Feed.is c.call_feed.ensures
 
 pub returns-in-Cancel : goal.returns-in-Cancel
 returns-in-Cancel c =

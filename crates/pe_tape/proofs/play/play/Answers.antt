@@ -1,14 +1,6 @@
 use native.Mathlib.Omega.{arith}
-use Rattle.pe_tape.proofs.StepLaws.{going, go_on, end}
+use Rattle.pe_tape.proofs.StepLaws.{go_on, end}
 use Rattle.pe_tape.proofs.play.play.Goals as goal
-
-pub loop-next-init : goal.loop-next-init
-loop-next-init c =
-    going _ _ _
-
-pub play_next-requires : goal.play_next-requires
-play_next-requires c =
-    c.loop-next.invariant.fits
 
 pub loop-next-smaller : goal.loop-next-smaller
 loop-next-smaller c =

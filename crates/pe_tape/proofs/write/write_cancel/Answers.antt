@@ -1,9 +1,6 @@
-use native.Mathlib.Omega.{arith}
 use mathlib.Core.List.{[]}
-use mathlib.Core.Path.{◌≡◌, sym, ap, ◌∙◌}
-use lib.ListN.{length, length-set}
+use mathlib.Core.Path.{◌≡◌, sym, ◌∙◌}
 use Rattle.seven_bit.specs.Parts.{put}
-use Rattle.seven_bit.proofs.PartLaws.{length_put}
 use Rattle.pe_tape.specs.Command.{cancel, write_command}
 use Rattle.pe_tape.proofs.WritingLaws.{short, stored, asked, cancel_call, cancel_length, cancel_stored}
 use Rattle.pe_tape.proofs.write.write_cancel.Goals as goal
@@ -18,16 +15,6 @@ held c =
 pub returns-then-out : goal.returns-then-out
 returns-then-out c =
     short 6 ((write_command (cancel c.args.peer c.args.request_id))) c.args.out.now c.if-out.true ∙ asked c.args.out.now (sym (cancel_call c.args.peer c.args.request_id [] _))
-
-pub put_operand-requires : goal.put_operand-requires
-put_operand-requires c =
-    let l = length-set c.args.out.now 0 2 in
-    omega (arith, l, c.if-out.false)
-
-pub put_operand-requires-2 : goal.put_operand-requires-2
-put_operand-requires-2 c =
-    let l = length-set c.args.out.now 0 2 in
-    omega (arith, c.put_operand.auto.out, l, c.if-out.false)
 
 pub returns : goal.returns
 returns c =

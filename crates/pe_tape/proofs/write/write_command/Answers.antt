@@ -12,10 +12,6 @@ use Rattle.pe_tape.proofs.write.write_command.Goals.{Start}
 abbrev answer : Start → Command → Outcome
 answer c k = writing (write_call k c.args.source.now (length c.args.out.now)) c.args.out.now
 
-pub returns-in-Feed : goal.returns-in-Feed
-returns-in-Feed c =
-    c.write_feed.ensures ∙ ap (answer (goal.at.returns-in-Feed c).Start) (sym c.in-Feed.is)
-
 pub returns-in-Cancel : goal.returns-in-Cancel
 returns-in-Cancel c =
     c.write_cancel.ensures

@@ -1,9 +1,9 @@
 use Prim.Native.Nat.{◌+◌, ◌≤◌}
 use native.Mathlib.Omega.{arith}
 use mathlib.Core.Path.{◌≡◌, ap, ◌∙◌}
-use lib.ListN.{length, length-set}
+use lib.ListN.{length}
 use Rattle.seven_bit.specs.Parts.{part, put, put_fit}
-use Rattle.seven_bit.proofs.PartLaws.{length_part, length_put}
+use Rattle.seven_bit.proofs.PartLaws.{length_part}
 use Rattle.pe_reassembler.proofs.TableClose.{part_lent}
 use Rattle.pe_tape.specs.Command.{write_command}
 use Rattle.pe_tape.proofs.WritingLaws.{feed_of, feed_outside, feed_long, feed_short, feed_written, feed_stored}
@@ -13,13 +13,6 @@ use Rattle.pe_tape.proofs.write.write_feed.Goals.{After-copy_in, After-put_opera
 -- what was asked: the chunk lies in the source
 inside : (c : Else-source-chunk_at-2) → let a = c.args in a.f.chunk_at + a.f.chunk_len ≤ length a.source.now
 inside c = omega (arith, c.if-source-chunk_at.false, c.if-source-chunk_at-2.false)
-
--- the length stays
-kept1 : (c : After-put_operand) → length c.put_operand.new.out ≡ length c.args.out.now
-kept1 c = c.put_operand.auto.out ∙ length-set c.args.out.now 0 1
-
-kept2 : (c : After-put_operand-2) → length c.put_operand-2.new.out ≡ length c.args.out.now
-kept2 c = c.put_operand-2.auto.out ∙ (c.put_operand.auto.out ∙ length-set c.args.out.now 0 1)
 
 -- what out holds in the end
 held : (c : After-copy_in) → let a = c.args in
@@ -55,19 +48,6 @@ pub returns-then-out-len : goal.returns-then-out-len
 returns-then-out-len c =
     let a = c.args in
     feed_short a.f a.source.now a.out.now (inside (goal.at.returns-then-out-len c).Else-source-chunk_at-2) c.if-chunk_len-gt-MAX_CHUNK_LEN.false c.if-out-len.true
-
-pub put_operand-requires : goal.put_operand-requires
-put_operand-requires c =
-    let l = length-set c.args.out.now 0 1 in
-    omega (arith, l, c.if-out-len.false)
-
-pub put_operand-requires-2 : goal.put_operand-requires-2
-put_operand-requires-2 c =
-    omega (arith, kept1 (goal.at.put_operand-requires-2 c).After-put_operand, c.if-out-len.false)
-
-pub put_operand-requires-3 : goal.put_operand-requires-3
-put_operand-requires-3 c =
-    omega (arith, kept2 (goal.at.put_operand-requires-3 c).After-put_operand-2, c.if-out-len.false)
 
 pub returns : goal.returns
 returns c =

@@ -1,14 +1,13 @@
 use Prim.Native.Nat.{◌+◌}
 use native.Mathlib.Omega.{arith}
 use mathlib.Core.List.{◌∷◌}
-use mathlib.Core.Path.{◌≡◌, refl, ap, ◌∙◌}
+use mathlib.Core.Path.{◌≡◌, refl, ◌∙◌}
 use lib.ListN.{length}
 use Rattle.seven_bit.specs.Parts.{put}
-use Rattle.seven_bit.proofs.PartLaws.{length_put}
 use Rattle.pe_tape.specs.Number.{operand_bytes}
 use Rattle.pe_tape.proofs.NumberLaws.{operand_length}
 use Rattle.pe_tape.proofs.LineLaws.{put_front_byte}
-use Rattle.pe_tape.proofs.WritingLaws.{short, stored}
+use Rattle.pe_tape.proofs.WritingLaws.{stored}
 use Rattle.pe_tape.proofs.write.write_one.Goals as goal
 use Rattle.pe_tape.proofs.write.write_one.Goals.{After-put_operand}
 
@@ -17,14 +16,6 @@ held : (c : After-put_operand) → c.put_operand.new.out ≡ put c.args.out.now 
 held c =
     let a = c.args in
     c.put_operand.ensures.1 ∙ put_front_byte a.out.now 0 a.kind (operand_bytes a.width a.n) 1 refl
-
-pub returns-then-out-width : goal.returns-then-out-width
-returns-then-out-width c =
-    short (1 + c.args.width) ((c.args.kind ∷ operand_bytes c.args.width c.args.n)) c.args.out.now c.if-out-width.true
-
-pub shape_of-out : goal.shape_of-out
-shape_of-out c =
-    ap length (held (goal.at.shape_of-out c).After-put_operand) ∙ length_put c.args.out.now 0 ((c.args.kind ∷ operand_bytes c.args.width c.args.n))
 
 pub returns : goal.returns
 returns c =

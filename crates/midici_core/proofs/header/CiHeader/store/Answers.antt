@@ -19,8 +19,5 @@ after c =
     ∙ ap (λ (l : List ℕ). put_fit l 13 a.data.now) first
     ∙ fit_fit a.out.now bytes a.data.now 13 (header_length (header_of a.self)) c.requires
 
-pub shape_of-out : goal.shape_of-out
-shape_of-out c = ap length (after (goal.at.shape_of-out c).After-copy_in-2) ∙ length_put c.args.out.now 0 _
-
 pub returns : goal.returns
 returns c = after (goal.at.returns c).After-copy_in-2

@@ -3,9 +3,6 @@ use borrow.Author.Rules.{rules}
 use Rattle.midici_core.proofs.MuidLaws.{first_here, first_next, first_none}
 use Rattle.midici_core.proofs.muid.Muid.generate.Goals as goal
 
-pub loop-i-init : goal.loop-i-init
-loop-i-init c = (search rules, refl)
-
 pub returns-then-candidate-lt-ORDINARY_END : goal.returns-then-candidate-lt-ORDINARY_END
 returns-then-candidate-lt-ORDINARY_END c =
     let ws = c.args.words.now in

@@ -17,63 +17,53 @@ use Rattle.midici_core.proofs.pe_caps.PeCapabilities.encode.Goals as goal
 use Rattle.midici_core.proofs.pe_caps.PeCapabilities.encode.Goals.{After-data_len-n, After-store, Else-not-all_seven_bit, Else-not-muids_fit, Else-out-n}
 
 -- the questions that had a yes, as the definition puts them
-consoles : (c : Else-not-muids_fit) → within28 ((caps_of c.args.self)).header ≡ true
+consoles : (c : Else-not-muids_fit) → within28 (caps_of c.args.self).header ≡ true
 consoles c = sym c.muids_fit.ensures ∙ c.if-not-muids_fit.false
 
-len : (c : After-data_len-n) → c.data_len-n.result ≡ caps_len ((caps_of c.args.self)).header.version
+len : (c : After-data_len-n) → c.data_len-n.result ≡ caps_len (caps_of c.args.self).header.version
 len c = c.data_len-n.ensures
 
-room : (c : Else-out-n) → 13 + caps_len ((caps_of c.args.self)).header.version ≤ length c.args.out.now
-room c = omega (arith, c.if-out-n.false, (c.data_len-n.ensures))
+room : (c : Else-out-n) → 13 + caps_len (caps_of c.args.self).header.version ≤ length c.args.out.now
+room c = omega (arith, c.if-out-n.false, c.data_len-n.ensures)
 
-values : (c : Else-not-all_seven_bit) → is_seven_bit (caps_values ((caps_of c.args.self))) ≡ true
+values : (c : Else-not-all_seven_bit) → is_seven_bit (caps_values (caps_of c.args.self)) ≡ true
 unfolding caps_values
 values c = sym c.all_seven_bit.ensures ∙ c.if-not-all_seven_bit.false
 
 -- what out holds then
-after : (c : After-store) → c.store.new.out ≡ put c.args.out.now 0 (caps_bytes ((caps_of c.args.self)))
+after : (c : After-store) → c.store.new.out ≡ put c.args.out.now 0 (caps_bytes (caps_of c.args.self))
 unfolding caps_bytes caps_values
 after c =
     c.store.ensures
-    ∙ ap (λ (n : ℕ). put c.args.out.now 0 (bytes_of_header ((caps_of c.args.self)).header ++ take n (caps_values ((caps_of c.args.self))))) ((c.data_len-n.ensures))
+    ∙ ap (λ (n : ℕ). put c.args.out.now 0 (bytes_of_header (caps_of c.args.self).header ++ take n (caps_values (caps_of c.args.self)))) c.data_len-n.ensures
 
 pub returns-then-not-muids_fit : goal.returns-then-not-muids_fit
 unfolding write_caps
 returns-then-not-muids_fit c =
-    let e : within28 ((caps_of c.args.self)).header ≡ false = sym c.muids_fit.ensures ∙ c.if-not-muids_fit.true in
+    let e : within28 (caps_of c.args.self).header ≡ false = sym c.muids_fit.ensures ∙ c.if-not-muids_fit.true in
     rw e
 
 pub overflow_add-n : goal.overflow_add-n
-overflow_add-n c = omega (arith, len c, len_most ((caps_of c.args.self)).header.version)
+overflow_add-n c = omega (arith, len c, len_most (caps_of c.args.self).header.version)
 
 pub returns-then-out-n : goal.returns-then-out-n
 unfolding write_caps
 returns-then-out-n c =
     let e = len (goal.at.returns-then-out-n c).After-data_len-n in
-    let short : length c.args.out.now < 13 + caps_len ((caps_of c.args.self)).header.version = omega arith in
+    let short : length c.args.out.now < 13 + caps_len (caps_of c.args.self).header.version = omega arith in
     rw (consoles (goal.at.returns-then-out-n c).Else-not-muids_fit, lt-leb _ _ short)
 
 pub returns-then-not-all_seven_bit : goal.returns-then-not-all_seven_bit
 unfolding write_caps caps_values
 returns-then-not-all_seven_bit c =
-    let e : is_seven_bit (caps_values ((caps_of c.args.self))) ≡ false = sym c.all_seven_bit.ensures ∙ c.if-not-all_seven_bit.true in
+    let e : is_seven_bit (caps_values (caps_of c.args.self)) ≡ false = sym c.all_seven_bit.ensures ∙ c.if-not-all_seven_bit.true in
     rw (consoles (goal.at.returns-then-not-all_seven_bit c).Else-not-muids_fit, le-leb _ _ (room (goal.at.returns-then-not-all_seven_bit c).Else-out-n), e)
 
 pub slice_bounds-values-end : goal.slice_bounds-values-end
-slice_bounds-values-end c = omega (arith, len (goal.at.slice_bounds-values-end c).After-data_len-n, len_most ((caps_of c.args.self)).header.version)
+slice_bounds-values-end c = omega (arith, len (goal.at.slice_bounds-values-end c).After-data_len-n, len_most (caps_of c.args.self).header.version)
 
 pub slice_bounds-store-end : goal.slice_bounds-store-end
-slice_bounds-store-end c = sym (length-take-le _ _ (omega (arith, len (goal.at.slice_bounds-store-end c).After-data_len-n, len_most ((caps_of c.args.self)).header.version)))
-
-pub store-requires : goal.store-requires
-store-requires c =
-    let n = c.data_len-n.result in
-    let s = c.args.self in
-    let l : length (take n (s.simultaneous_requests ∷ s.pe_major ∷ s.pe_minor ∷ [])) ≡ n = length-take-le n _ (omega (arith, len (goal.at.store-requires c).After-data_len-n, len_most ((caps_of c.args.self)).header.version)) in
-    omega (arith, l, room (goal.at.store-requires c).Else-out-n, len (goal.at.store-requires c).After-data_len-n)
-
-pub shape_of-out : goal.shape_of-out
-shape_of-out c = ap length (after (goal.at.shape_of-out c).After-store) ∙ length_put c.args.out.now 0 _
+slice_bounds-store-end c = sym (length-take-le _ _ (omega (arith, len (goal.at.slice_bounds-store-end c).After-data_len-n, len_most (caps_of c.args.self).header.version)))
 
 pub returns : goal.returns
 unfolding write_caps

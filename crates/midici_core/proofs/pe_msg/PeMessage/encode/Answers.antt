@@ -24,9 +24,6 @@ returns-then-out-total c =
     let e : within28 (header_of c.args.header) ≡ true = sym c.muids_fit.ensures ∙ c.if-not-muids_fit.false in
     rw (e, lt-leb _ _ c.if-out-total.true)
 
-pub shape_of-out : goal.shape_of-out
-shape_of-out c = ap length c.store.ensures ∙ length_put c.args.out.now 0 _
-
 pub returns : goal.returns
 unfolding write_message
 returns c =
