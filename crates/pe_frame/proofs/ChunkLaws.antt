@@ -221,7 +221,7 @@ module _ (c : Chunk) where
 
   -- how many they are
   pub size_length : length up_to_size ≡ 3
-  size_length = simp (length-append, bytes_length)
+  size_length = simp bytes_length
 
   pub header_length : length up_to_header ≡ 3 + length c.header
   header_length = simp (length-append, bytes_length)

@@ -1,4 +1,4 @@
-use mathlib.Core.Path.{refl, sym, ◌∙◌}
+use mathlib.Core.Path.{sym, ◌∙◌}
 use borrow.Author.Rules.{rules}
 use Rattle.midici_core.specs.Kinds.{kind_table}
 use Rattle.midici_core.proofs.KindLaws.{found_here, found_next, found_none, table_rule}

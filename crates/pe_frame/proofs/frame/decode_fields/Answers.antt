@@ -1,4 +1,3 @@
-use mathlib.Core.Path.{sym, ◌∙◌}
 use borrow.Author.Tests.{lt-leb}
 use Rattle.pe_frame.specs.Chunk.{read_fields}
 use Rattle.pe_frame.proofs.frame.decode_fields.Goals as goal

@@ -3,7 +3,7 @@ use Prim.Native.Nat.{◌+◌}
 use lib.ListN.{length}
 use native.Mathlib.Omega.{arith}
 use Rattle.seven_bit.specs.Reply.{granted}
-use Rattle.seven_bit.proofs.PartLaws.{put_front, length_put}
+use Rattle.seven_bit.proofs.PartLaws.{put_front}
 use Rattle.seven_bit.proofs.ReplyLaws.{wrote, same_grant}
 use Rattle.pe_frame.specs.Chunk.{chunk_from}
 use Rattle.pe_frame.specs.Write.{InRange, chunk_len, chunk_len_told, chunk_bytes}
@@ -13,19 +13,25 @@ use Rattle.pe_frame.proofs.frame.encode.Goals.{In-Bytes}
 
 -- what the questions' answer tells
 told : (c : In-Bytes) → InRange (chunk_from c.args.request_id c.args.header.now c.args.num_chunks c.args.chunk_num c.args.property.now) × (granted (9 + length c.args.header.now + length c.args.property.now) ≡ granted c.in-Bytes.n)
-told c = ask_told (chunk_from c.args.request_id c.args.header.now c.args.num_chunks c.args.chunk_num c.args.property.now) _ _ (sym c.questions.ensures ∙ ap chunk_len_told c.in-Bytes.is)
+told c =
+    let x = chunk_from c.args.request_id c.args.header.now c.args.num_chunks c.args.chunk_num c.args.property.now in
+    ask_told x _ _ (sym c.questions.ensures ∙ ap chunk_len_told c.in-Bytes.is)
 
 need : (c : In-Bytes) → (9 + length c.args.header.now + length c.args.property.now) ≡ c.in-Bytes.n
-need c = same_grant _ _ _ refl (ask_told (chunk_from c.args.request_id c.args.header.now c.args.num_chunks c.args.chunk_num c.args.property.now) _ _ (sym c.questions.ensures ∙ ap chunk_len_told c.in-Bytes.is)).1
+need c =
+    let x = chunk_from c.args.request_id c.args.header.now c.args.num_chunks c.args.chunk_num c.args.property.now in
+    same_grant _ _ _ refl (ask_told x _ _ (sym c.questions.ensures ∙ ap chunk_len_told c.in-Bytes.is)).1
 
 pub returns-in-Refused : goal.returns-in-Refused
 returns-in-Refused c =
+    let x = chunk_from c.args.request_id c.args.header.now c.args.num_chunks c.args.chunk_num c.args.property.now in
     let e = sym c.questions.ensures ∙ ap chunk_len_told c.in-Refused.is in
-    rw (write_refused (chunk_from c.args.request_id c.args.header.now c.args.num_chunks c.args.chunk_num c.args.property.now) _ _ _ _ e)
+    rw (write_refused x _ _ _ _ e)
 
 pub returns-then-out-need : goal.returns-then-out-need
 returns-then-out-need c =
-    rw (write_short (chunk_from c.args.request_id c.args.header.now c.args.num_chunks c.args.chunk_num c.args.property.now) (length c.args.out.now) (told (goal.at.returns-then-out-need c).In-Bytes).0 (omega (arith, need (goal.at.returns-then-out-need c).In-Bytes, c.if-out-need.true)))
+    let x = chunk_from c.args.request_id c.args.header.now c.args.num_chunks c.args.chunk_num c.args.property.now in
+    rw (write_short x (length c.args.out.now) (told (goal.at.returns-then-out-need c).In-Bytes).0 (omega (arith, need (goal.at.returns-then-out-need c).In-Bytes, c.if-out-need.true)))
 
 pub fill-requires : goal.fill-requires
 fill-requires c =
@@ -35,7 +41,8 @@ fill-requires c =
 pub returns : goal.returns
 unfolding chunk_len
 returns c =
-    let l = chunk_length (chunk_from c.args.request_id c.args.header.now c.args.num_chunks c.args.chunk_num c.args.property.now) in
+    let x = chunk_from c.args.request_id c.args.header.now c.args.num_chunks c.args.chunk_num c.args.property.now in
+    let l = chunk_length x in
     let room = c.if-out-need.false in
-    rw (write_granted (chunk_from c.args.request_id c.args.header.now c.args.num_chunks c.args.chunk_num c.args.property.now) (length c.args.out.now) (told (goal.at.returns c).In-Bytes).0 (omega (arith, need (goal.at.returns c).In-Bytes, room)))
-    (wrote (chunk_bytes (chunk_from c.args.request_id c.args.header.now c.args.num_chunks c.args.chunk_num c.args.property.now)) c.args.out.now _ _ (l ∙ need (goal.at.returns c).In-Bytes) (c.fill.ensures ∙ put_front c.args.out.now (chunk_bytes (chunk_from c.args.request_id c.args.header.now c.args.num_chunks c.args.chunk_num c.args.property.now)) (omega (arith, l, need (goal.at.returns c).In-Bytes, room))))
+    rw (write_granted x (length c.args.out.now) (told (goal.at.returns c).In-Bytes).0 (omega (arith, need (goal.at.returns c).In-Bytes, room)))
+    (wrote (chunk_bytes x) c.args.out.now _ _ (l ∙ need (goal.at.returns c).In-Bytes) (c.fill.ensures ∙ put_front c.args.out.now (chunk_bytes x) (omega (arith, l, need (goal.at.returns c).In-Bytes, room))))

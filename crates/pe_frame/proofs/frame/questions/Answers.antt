@@ -14,7 +14,8 @@ use Rattle.pe_frame.proofs.frame.questions.Goals.{Else-chunk_num-gt-U14_MAX, Els
 
 numbers : (c : Else-chunk_num-gt-U14_MAX) → ask_chunk (chunk_from c.args.request_id c.args.header.now c.args.num_chunks c.args.chunk_num c.args.property.now) (granted (9 + length c.args.header.now + length c.args.property.now)) ≡ ask_bytes (chunk_from c.args.request_id c.args.header.now c.args.num_chunks c.args.chunk_num c.args.property.now) (granted (9 + length c.args.header.now + length c.args.property.now))
 numbers c =
-    past_numbers (chunk_from c.args.request_id c.args.header.now c.args.num_chunks c.args.chunk_num c.args.property.now) _ c.if-request_id-gt-REQUEST_ID_MAX.false c.if-header.false c.if-property.false
+    let x = chunk_from c.args.request_id c.args.header.now c.args.num_chunks c.args.chunk_num c.args.property.now in
+    past_numbers x _ c.if-request_id-gt-REQUEST_ID_MAX.false c.if-header.false c.if-property.false
     c.if-num_chunks-gt-U14_MAX.false c.if-chunk_num-gt-U14_MAX.false
 
 -- the header's bytes, and the property's

@@ -1,10 +1,8 @@
 use Prim.Native.Nat.{ℕ}
-use mathlib.Core.Bool.{◌&&◌}
-use mathlib.Core.Path.{◌≡◌, refl, ap, ◌∙◌}
+use mathlib.Core.Path.{refl, ap, ◌∙◌}
 use native.Mathlib.Omega.{arith}
 use borrow.Author.Rules.{rules}
 use lib.ListN.{set}
-use Rattle.seven_bit.specs.Parts.{part}
 use Rattle.seven_bit.specs.SevenBit.{is_seven_bit}
 use Rattle.pe_frame.proofs.LowLaws.{gathered_none, gathered_byte}
 use Rattle.pe_frame.proofs.low.gather.Goals as goal

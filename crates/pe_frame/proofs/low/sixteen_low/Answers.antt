@@ -1,10 +1,6 @@
-use mathlib.Core.Path.{sym, ap, ◌∙◌}
-use Prim.Native.Nat.{◌≤◌}
+use mathlib.Core.Path.{sym}
 use native.Mathlib.Omega.{arith}
 use borrow.Author.Rules.{rules}
-use lib.ListN.{length}
-use lib.Seq.{take_all}
-use Rattle.seven_bit.specs.SevenBit.{is_seven_bit}
 use Rattle.pe_frame.proofs.LowLaws.{front_none, front_next, high_at}
 use Rattle.pe_frame.proofs.low.sixteen_low.Goals as goal
 

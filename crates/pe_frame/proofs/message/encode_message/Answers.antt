@@ -25,10 +25,14 @@ kind : (c : Else-not-is_pe_chunked_sub_id) → carries_chunk c.args.sub_id2 ≡ 
 kind c = sym c.is_pe_chunked_sub_id.ensures ∙ c.if-not-is_pe_chunked_sub_id.false
 
 told : (c : In-Bytes) → InRange (chunk_from c.args.request_id c.args.header.now c.args.num_chunks c.args.chunk_num c.args.property.now) × (granted (9 + length c.args.header.now + length c.args.property.now) ≡ granted c.in-Bytes.n)
-told c = ask_told (chunk_from c.args.request_id c.args.header.now c.args.num_chunks c.args.chunk_num c.args.property.now) _ _ (sym c.questions.ensures ∙ ap chunk_len_told c.in-Bytes.is)
+told c =
+    let x = chunk_from c.args.request_id c.args.header.now c.args.num_chunks c.args.chunk_num c.args.property.now in
+    ask_told x _ _ (sym c.questions.ensures ∙ ap chunk_len_told c.in-Bytes.is)
 
 len : (c : In-Bytes) → (9 + length c.args.header.now + length c.args.property.now) ≡ c.in-Bytes.n
-len c = same_grant _ _ _ refl (ask_told (chunk_from c.args.request_id c.args.header.now c.args.num_chunks c.args.chunk_num c.args.property.now) _ _ (sym c.questions.ensures ∙ ap chunk_len_told c.in-Bytes.is)).1
+len c =
+    let x = chunk_from c.args.request_id c.args.header.now c.args.num_chunks c.args.chunk_num c.args.property.now in
+    same_grant _ _ _ refl (ask_told x _ _ (sym c.questions.ensures ∙ ap chunk_len_told c.in-Bytes.is)).1
 
 -- what out holds behind the header
 headed : (c : After-put_header) → length c.put_header.new.out ≡ length c.args.out.now
@@ -37,8 +41,9 @@ headed c = ap length c.put_header.ensures ∙ length_put c.args.out.now _ _
 -- and behind the chunk
 held : (c : After-fill) → let a = c.args in c.fill.new.out ≡ put a.out.now 0 (whole_bytes a.sub_id2 a.source.0 a.dest.0 (chunk_from c.args.request_id c.args.header.now c.args.num_chunks c.args.chunk_num c.args.property.now))
 held c =
+    let x = chunk_from c.args.request_id c.args.header.now c.args.num_chunks c.args.chunk_num c.args.property.now in
     let h = header_for c.args.sub_id2 c.args.source.0 c.args.dest.0 in
-    c.fill.ensures ∙ put_on c.args.out.now _ (bytes_of_header h) (chunk_bytes (chunk_from c.args.request_id c.args.header.now c.args.num_chunks c.args.chunk_num c.args.property.now)) 0 13 c.put_header.ensures (omega (arith, header_length h))
+    c.fill.ensures ∙ put_on c.args.out.now _ (bytes_of_header h) (chunk_bytes x) 0 13 c.put_header.ensures (omega (arith, header_length h))
 
 pub returns-then-not-muids_fit : goal.returns-then-not-muids_fit
 unfolding write_whole
@@ -57,8 +62,9 @@ returns-then-not-is_pe_chunked_sub_id c =
 
 pub returns-in-Refused : goal.returns-in-Refused
 returns-in-Refused c =
+    let x = chunk_from c.args.request_id c.args.header.now c.args.num_chunks c.args.chunk_num c.args.property.now in
     let e = sym c.questions.ensures ∙ ap chunk_len_told c.in-Refused.is in
-    rw (whole_refused _ _ _ (chunk_from c.args.request_id c.args.header.now c.args.num_chunks c.args.chunk_num c.args.property.now) _ (consoles (goal.at.returns-in-Refused c).Else-not-is_pe_chunked_sub_id) (kind (goal.at.returns-in-Refused c).Else-not-is_pe_chunked_sub_id) _ _ _ e)
+    rw (whole_refused _ _ _ x _ (consoles (goal.at.returns-in-Refused c).Else-not-is_pe_chunked_sub_id) (kind (goal.at.returns-in-Refused c).Else-not-is_pe_chunked_sub_id) _ _ _ e)
 
 pub overflow_add-need : goal.overflow_add-need
 overflow_add-need c =
@@ -66,7 +72,8 @@ overflow_add-need c =
 
 pub returns-then-out-need : goal.returns-then-out-need
 returns-then-out-need c =
-    rw (whole_short _ _ _ (chunk_from c.args.request_id c.args.header.now c.args.num_chunks c.args.chunk_num c.args.property.now) (length c.args.out.now) (consoles (goal.at.returns-then-out-need c).Else-not-is_pe_chunked_sub_id) (kind (goal.at.returns-then-out-need c).Else-not-is_pe_chunked_sub_id) (told (goal.at.returns-then-out-need c).In-Bytes).0 (omega (arith, len (goal.at.returns-then-out-need c).In-Bytes, c.if-out-need.true)))
+    let x = chunk_from c.args.request_id c.args.header.now c.args.num_chunks c.args.chunk_num c.args.property.now in
+    rw (whole_short _ _ _ x (length c.args.out.now) (consoles (goal.at.returns-then-out-need c).Else-not-is_pe_chunked_sub_id) (kind (goal.at.returns-then-out-need c).Else-not-is_pe_chunked_sub_id) (told (goal.at.returns-then-out-need c).In-Bytes).0 (omega (arith, len (goal.at.returns-then-out-need c).In-Bytes, c.if-out-need.true)))
 
 pub fill-requires : goal.fill-requires
 fill-requires c =
@@ -75,8 +82,9 @@ fill-requires c =
 
 pub returns : goal.returns
 returns c =
-    let bytes = whole_bytes c.args.sub_id2 c.args.source.0 c.args.dest.0 (chunk_from c.args.request_id c.args.header.now c.args.num_chunks c.args.chunk_num c.args.property.now) in
-    let l = whole_length c.args.sub_id2 c.args.source.0 c.args.dest.0 (chunk_from c.args.request_id c.args.header.now c.args.num_chunks c.args.chunk_num c.args.property.now) in
+    let x = chunk_from c.args.request_id c.args.header.now c.args.num_chunks c.args.chunk_num c.args.property.now in
+    let bytes = whole_bytes c.args.sub_id2 c.args.source.0 c.args.dest.0 x in
+    let l = whole_length c.args.sub_id2 c.args.source.0 c.args.dest.0 x in
     let room = c.if-out-need.false in
-    rw (whole_granted _ _ _ (chunk_from c.args.request_id c.args.header.now c.args.num_chunks c.args.chunk_num c.args.property.now) (length c.args.out.now) (consoles (goal.at.returns c).Else-not-is_pe_chunked_sub_id) (kind (goal.at.returns c).Else-not-is_pe_chunked_sub_id) (told (goal.at.returns c).In-Bytes).0 (omega (arith, len (goal.at.returns c).In-Bytes, room)))
+    rw (whole_granted _ _ _ x (length c.args.out.now) (consoles (goal.at.returns c).Else-not-is_pe_chunked_sub_id) (kind (goal.at.returns c).Else-not-is_pe_chunked_sub_id) (told (goal.at.returns c).In-Bytes).0 (omega (arith, len (goal.at.returns c).In-Bytes, room)))
     (wrote bytes c.args.out.now _ _ (l ∙ ap (λ (k : ℕ). 13 + k) (len (goal.at.returns c).In-Bytes)) (held (goal.at.returns c).After-fill ∙ put_front c.args.out.now bytes (omega (arith, l, len (goal.at.returns c).In-Bytes, room))))

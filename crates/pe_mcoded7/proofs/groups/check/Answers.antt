@@ -1,4 +1,4 @@
-use mathlib.Core.Path.{◌≡◌, refl, sym, ◌∙◌}
+use mathlib.Core.Path.{◌≡◌, sym, ◌∙◌}
 use lib.ListN.{drop, drop_of_length-le}
 use native.Mathlib.Omega.{arith}
 use borrow.Author.Rules.{rules}

@@ -1,5 +1,5 @@
 use mathlib.Core.Path.{refl, sym, ◌∙◌}
-use lib.ListN.{drop_of_length-le, length-take, length-drop}
+use lib.ListN.{drop_of_length-le}
 use native.Mathlib.Omega.{arith}
 use borrow.Author.Rules.{rules}
 use Rattle.pe_mcoded7.specs.Mcoded7.{group_bytes, encoded}

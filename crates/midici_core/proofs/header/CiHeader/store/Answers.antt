@@ -1,9 +1,8 @@
 use mathlib.Core.Path.{◌≡◌, ◌∙◌, ap}
 use Prim.Native.Nat.{ℕ}
-use lib.ListN.{length}
 use mathlib.Core.List.{List, ◌++◌}
 use Rattle.seven_bit.specs.Parts.{put, put_fit}
-use Rattle.seven_bit.proofs.PartLaws.{fit_fit, length_put}
+use Rattle.seven_bit.proofs.PartLaws.{fit_fit}
 use Rattle.midici_core.specs.Header.{header_of, bytes_of_header}
 use Rattle.midici_core.proofs.HeaderLaws.{header_length}
 use Rattle.midici_core.proofs.header.CiHeader.store.Goals as goal

@@ -1,4 +1,4 @@
-use mathlib.Core.Path.{refl, sym, ◌∙◌}
+use mathlib.Core.Path.{sym, ◌∙◌}
 use borrow.Author.Rules.{rules}
 use Rattle.midici_core.proofs.MuidLaws.{first_here, first_next, first_none}
 use Rattle.midici_core.proofs.muid.Muid.generate.Goals as goal

@@ -3,11 +3,11 @@ use Prim.Native.Nat.{ℕ, ◌+◌, ◌≤◌, ◌<◌}
 use lib.ListN.{length, take}
 use native.Mathlib.Omega.{arith}
 use mathlib.Core.Bool.{true, false}
-use mathlib.Core.List.{[], ◌∷◌, ◌++◌}
+use mathlib.Core.List.{◌++◌}
 use borrow.Author.Tests.{le-leb, lt-leb}
 use Rattle.seven_bit.specs.Parts.{put}
 use Rattle.seven_bit.specs.SevenBit.{is_seven_bit}
-use Rattle.seven_bit.proofs.PartLaws.{put_front, length_put}
+use Rattle.seven_bit.proofs.PartLaws.{put_front}
 use Rattle.seven_bit.proofs.ReplyLaws.{wrote}
 use Rattle.midici_core.specs.Header.{within28, bytes_of_header}
 use Rattle.midici_core.specs.Caps.{write_caps, caps_of, caps_len, caps_values, caps_bytes}

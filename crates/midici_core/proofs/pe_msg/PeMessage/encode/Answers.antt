@@ -1,11 +1,11 @@
-use mathlib.Core.Path.{◌≡◌, sym, ◌∙◌, ap}
+use mathlib.Core.Path.{◌≡◌, sym, ◌∙◌}
 use Prim.Native.Nat.{◌+◌}
 use lib.ListN.{length, length-append}
 use native.Mathlib.Omega.{arith}
 use mathlib.Core.Bool.{true, false}
 use mathlib.Core.List.{◌++◌}
 use borrow.Author.Tests.{le-leb, lt-leb}
-use Rattle.seven_bit.proofs.PartLaws.{put_front, length_put}
+use Rattle.seven_bit.proofs.PartLaws.{put_front}
 use Rattle.seven_bit.proofs.ReplyLaws.{wrote}
 use Rattle.midici_core.specs.Header.{within28, header_of, bytes_of_header}
 use Rattle.midici_core.specs.Message.{write_message}
