@@ -42,7 +42,12 @@ fn examples(to: &mut impl Write) -> io::Result<()> {
     later_carries(to, b"limit 5000:", 5000)?;
     later_carries(to, b"limit 16384:", 16384)?;
     later_carries(to, b"limit 16385:", 16385)?;
-    first_carries(to, b"limit 128, header 104, the first chunk carries:", 128, 104)?;
+    first_carries(
+        to,
+        b"limit 128, header 104, the first chunk carries:",
+        128,
+        104,
+    )?;
     first_carries(to, b"limit 128, header 105:", 128, 105)?;
     cut::examples(to)?;
     muid_reads(to, b"console 7F 7F 7F 7F:", &[0x7F, 0x7F, 0x7F, 0x7F])?;

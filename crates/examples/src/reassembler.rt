@@ -78,12 +78,7 @@ fn timeout(to: &mut impl Write, rows: u64, peer: u64, request_id: u64) -> io::Re
 }
 
 // How many slots timed out, and the peer and request id of the first.
-fn polls(
-    to: &mut impl Write,
-    what: &[u8],
-    numbers: &mut [u64],
-    now_ms: u64,
-) -> io::Result<()> {
+fn polls(to: &mut impl Write, what: &[u8], numbers: &mut [u64], now_ms: u64) -> io::Result<()> {
     text(to, what)?;
     let mut peers = [0u64; 4];
     let mut request_ids = [0u64; 4];
@@ -106,10 +101,26 @@ fn timeouts(
     arenas: &mut [u8],
 ) -> io::Result<()> {
     let second = [5u8, 0, 0, 2, 0, 2, 0, 1, 0, 2];
-    feeds(to, b"chunk 2 of 2:", numbers, index, headers, arenas, &second)?;
+    feeds(
+        to,
+        b"chunk 2 of 2:",
+        numbers,
+        index,
+        headers,
+        arenas,
+        &second,
+    )?;
     polls(to, b"poll at 3999:", numbers, 3999)?;
     polls(to, b"poll at 4000:", numbers, 4000)?;
-    feeds(to, b"chunk 2 of 2:", numbers, index, headers, arenas, &second)?;
+    feeds(
+        to,
+        b"chunk 2 of 2:",
+        numbers,
+        index,
+        headers,
+        arenas,
+        &second,
+    )?;
     polls(to, b"poll at 500:", numbers, 500)
 }
 
@@ -124,9 +135,33 @@ fn joins(
     let first = [5u8, 1, 0, 0x7B, 2, 0, 1, 0, 1, 0, 1];
     let fifth = [5u8, 0, 0, 2, 0, 5, 0, 1, 0, 5];
     let second = [5u8, 0, 0, 2, 0, 2, 0, 1, 0, 2];
-    feeds(to, b"chunk 1 of 2:", numbers, index, headers, arenas, &first)?;
-    feeds(to, b"chunk 5 of 2:", numbers, index, headers, arenas, &fifth)?;
-    feeds(to, b"chunk 2 of 2:", numbers, index, headers, arenas, &second)
+    feeds(
+        to,
+        b"chunk 1 of 2:",
+        numbers,
+        index,
+        headers,
+        arenas,
+        &first,
+    )?;
+    feeds(
+        to,
+        b"chunk 5 of 2:",
+        numbers,
+        index,
+        headers,
+        arenas,
+        &fifth,
+    )?;
+    feeds(
+        to,
+        b"chunk 2 of 2:",
+        numbers,
+        index,
+        headers,
+        arenas,
+        &second,
+    )
 }
 
 // K3, in a slot: a new count below a number that is held is turned down, and the slot stays open.
@@ -142,7 +177,8 @@ fn late_counts(
     let first_of_3 = [5u8, 1, 0, 0x7B, 3, 0, 1, 0, 1, 0, 1];
     feeds(to, b"chunk 3:", numbers, index, headers, arenas, &third)?;
     feeds(
-        to, b"chunk 1 of 2:",
+        to,
+        b"chunk 1 of 2:",
         numbers,
         index,
         headers,
@@ -150,7 +186,8 @@ fn late_counts(
         &first_of_2,
     )?;
     feeds(
-        to, b"chunk 1 of 3:",
+        to,
+        b"chunk 1 of 3:",
         numbers,
         index,
         headers,

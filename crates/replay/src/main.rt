@@ -190,7 +190,13 @@ fn write(op: u8, s: &[u8], out: &mut [u8]) -> Answer {
     }
 }
 
-fn write_into(to: &mut impl Write, op: u8, s: &[u8], space: &mut [u8], room: usize) -> io::Result<()> {
+fn write_into(
+    to: &mut impl Write,
+    op: u8,
+    s: &[u8],
+    space: &mut [u8],
+    room: usize,
+) -> io::Result<()> {
     if room <= space.len() {
         print_answer(to, write(op, s, &mut space[0..room]))?;
         print_out(to, &space[0..room])?;
@@ -335,15 +341,27 @@ fn play_reader(to: &mut impl Write, op: u8, s: &[u8]) -> io::Result<()> {
         8 => muid_decode(to, s),
         9 => muid_generate(to, s),
         10 => header_decode(to, s),
-        12 => print_flag(to, codec_exports::ci::codec_is_pe_chunked_sub_id(u8_at(s, 0))),
+        12 => print_flag(
+            to,
+            codec_exports::ci::codec_is_pe_chunked_sub_id(u8_at(s, 0)),
+        ),
         13 => kind_of(to, s),
         14 => caps_decode(to, s),
         20 => print_byte(to, codec_exports::pe::codec_first_request_id()),
         21 => alloc_out_request_id(to, s),
-        22 => print_byte(to, codec_exports::pe::codec_negotiated_requests(u8_at(s, 0), u8_at(s, 1))),
-        26 => print_value(to, codec_exports::pe::codec_clamp_max_sysex(u32_at(s, 0)) as u64),
+        22 => print_byte(
+            to,
+            codec_exports::pe::codec_negotiated_requests(u8_at(s, 0), u8_at(s, 1)),
+        ),
+        26 => print_value(
+            to,
+            codec_exports::pe::codec_clamp_max_sysex(u32_at(s, 0)) as u64,
+        ),
         27 => print_value(to, codec_exports::pe::codec_pe_payload_budget(u32_at(s, 0))),
-        28 => print_value(to, codec_exports::pe::codec_later_chunk_property_capacity(u32_at(s, 0))),
+        28 => print_value(
+            to,
+            codec_exports::pe::codec_later_chunk_property_capacity(u32_at(s, 0)),
+        ),
         29 => print_answer(to, first_capacity(s)),
         30 => print_answer(to, chunk_count(s)),
         _ => print_flag(to, false),

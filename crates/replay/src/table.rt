@@ -67,12 +67,18 @@ pub(crate) fn feed(
 }
 
 pub(crate) fn cancel(to: &mut impl Write, s: &[u8], numbers: &mut [u64]) -> io::Result<()> {
-    print_answer(to, hub::table::midici_pe_cancel(SHAPE, numbers, u32_at(s, 0), u8_at(s, 4)))?;
+    print_answer(
+        to,
+        hub::table::midici_pe_cancel(SHAPE, numbers, u32_at(s, 0), u8_at(s, 4)),
+    )?;
     print_out(to, b"")
 }
 
 pub(crate) fn drop_peer(to: &mut impl Write, s: &[u8], numbers: &mut [u64]) -> io::Result<()> {
-    print_answer(to, hub::table::midici_pe_drop_peer(SHAPE, numbers, u32_at(s, 0)))?;
+    print_answer(
+        to,
+        hub::table::midici_pe_drop_peer(SHAPE, numbers, u32_at(s, 0)),
+    )?;
     print_out(to, b"")
 }
 
