@@ -1,6 +1,0 @@
-use Rattle.hub.proofs.AnswerLaws.{writes}
-use Rattle.codec_exports.proofs.ci.codec_message_encode.Goals as goal
-
-pub returns : goal.returns
-returns c =
-    writes _ _ _ _ c.ci_encoded.ensures (rw c.header_in-header.ensures at c.encode.ensures)

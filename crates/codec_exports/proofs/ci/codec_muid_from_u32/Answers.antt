@@ -1,6 +1,0 @@
-use mathlib.Core.Path.{ap, ◌∙◌}
-use Rattle.hub.specs.Answers.{answer_of}
-use Rattle.codec_exports.proofs.ci.codec_muid_from_u32.Goals as goal
-
-pub returns : goal.returns
-returns c = c.muid_read.ensures ∙ ap answer_of c.from_u32.ensures

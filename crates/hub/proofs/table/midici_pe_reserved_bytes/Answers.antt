@@ -1,4 +1,0 @@
-use Rattle.hub.proofs.table.midici_pe_reserved_bytes.Goals as goal
-
-pub returns : goal.returns
-returns c = cc
