@@ -12,7 +12,7 @@ use lib.Seq.{get_or-append-add, get_or-drop}
 use Rattle.seven_bit.specs.Parts.{part, put}
 use Rattle.seven_bit.proofs.PartLaws.{length_part, part_none, put_none, put_front}
 use Rattle.seven_bit.proofs.CopyLaws.{next_copied}
-use Rattle.seven_bit.specs.Reply.{Reply, granted, refused}
+use Rattle.seven_bit.specs.Reply.{Reply}
 use Rattle.pe_tape.specs.declared.error.TapeError.{TapeError}
 use Rattle.pe_tape.specs.declared.play.Stop.{Stop}
 use Rattle.pe_reassembler.specs.Feed.{Memory}
