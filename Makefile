@@ -12,8 +12,8 @@ LIBRARY = target/lib/libmidici_pe.a
 OBJECTS = target/lib/hub_c.o target/lib/hub_message.o
 TAPE = target/programs/tape
 
-# The files of a crate and of those that it uses, but for the kit's.
-sources_of = $(shell find $(wildcard $(patsubst %,crates/%,$1 $(shell sed -n 's/^$1\( staticlib\)\{0,1\}://p' crates.txt))) -type d \( -name must-fail -o -name out \) -prune -o -print)
+# The files of a crate and of those that it uses, but for the kit's and what rt makes.
+sources_of = $(shell find $(wildcard $(patsubst %,crates/%,$1 $(shell sed -n 's/^$1\( staticlib\)\{0,1\}://p' crates.txt))) -mindepth 1 -type d \( -name must-fail -o -name out \) -prune -o -print)
 LIBRARY_SOURCES := $(call sources_of,hub_c) $(wildcard crates/hub_message/src/* crates/hub_message/proofs/*)
 TAPE_SOURCES := $(call sources_of,tape)
 
