@@ -19,7 +19,7 @@ pub const fn export(name: &'static str, refusals: &'static [u8]) -> Export {
 pub const NUMBERS: [u8; 26] = [1, 2, 3, 4, 5, 6, 7, 8, 9, 21, 22, 23, 24, 25, 26, 27, 28, 29, 30, 31, 32, 33, 34, 35, 38, 39];
 
 /// Those with which no export of crates/hub can refuse: 9 is asked of an Mcoded7 text, 25 of a capability message, and 27 is
-/// asked of the room for a CI message, for which the writer of a whole message asks 3. The exports of crates/codec_exports can.
+/// asked of the room for a CI message, for which the writer of a whole message asks 3. The exports of crates/codec_exports_c can.
 pub const NONE_OF_HUB: [u8; 3] = [9, 25, 27];
 
 impl Export {

@@ -1,4 +1,4 @@
-//! The port's answers, through the exports of crates/hub and crates/codec_exports.
+//! The port's answers, through the exports of crates/hub_c, hub_message and codec_exports_c.
 use exports::Refusing;
 use midici_core::spec::CI_HEADER_LEN;
 use oracle::case::Case;
