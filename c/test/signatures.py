@@ -74,7 +74,7 @@ def print_structs(text):
 
 def print_numbers(path, enum, prefix):
     """The numbers of an enum's cases: refusals, or kinds."""
-    cases = re.findall(rf'{enum}::(\w+)(?:\(_\))? => (\d+),', source(path).split('pub fn value')[0])
+    cases = re.findall(rf'{enum}::(\w+)(?:\(_\))? => (\d+),', source(path).split('fn value')[0])
     for name, number in cases:
         check(f"{prefix}{re.sub(r'(?<=[a-z0-9])(?=[A-Z])', '_', name).upper()} == {number}")
     return len(cases)

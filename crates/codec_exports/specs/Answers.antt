@@ -1,8 +1,7 @@
 -- What the exports answer: document 01's replies as structs of numbers. With a refusal every other field is 0; else the
 -- refusal's number and value are 0.
 -- Assumes nothing.
-use Rattle.std.specs.Prelude.{ℕ, true, false}
-use Rattle.std.proofs.Math.Option.{Option, none, some}
+use Rattle.std.specs.Prelude.{ℕ, true, false, Option, Some, None}
 use Rattle.seven_bit.specs.Reply.{Reply, granted, refused}
 use Rattle.midici_core.specs.Header.{Header}
 use Rattle.midici_core.specs.Caps.{Caps}
@@ -66,9 +65,9 @@ chunk_answer_of (refused number value) = chunk_out number value no_fields
 
 -- A kind's row; all 0 where it is none of the nine.
 abbrev pub kind_answer_of : Option KindRow → KindAnswer
-kind_answer_of (some k) = record { known = true; sub_id2 = k.kind; chunked = k.chunked; reply = k.reply }
-kind_answer_of none = record { known = false; sub_id2 = 0; chunked = false; reply = 0 }
+kind_answer_of (Some k) = record { known = true; sub_id2 = k.kind; chunked = k.chunked; reply = k.reply }
+kind_answer_of None = record { known = false; sub_id2 = 0; chunked = false; reply = 0 }
 
 abbrev pub generated_answer_of : Option ℕ → GeneratedAnswer
-generated_answer_of (some n) = record { found = true; number = n }
-generated_answer_of none = record { found = false; number = 0 }
+generated_answer_of (Some n) = record { found = true; number = n }
+generated_answer_of None = record { found = false; number = 0 }

@@ -10,8 +10,7 @@ ghost use Rattle.hub.specs.Answers.{answer_of, written, written_of};
 ghost use Rattle.codec_exports.specs.Answers.{header_in, header_answer_of, caps_in, caps_answer_of, message_answer_of, kind_answer_of, generated_answer_of};
 
 use crate::answer::{
-    CapsAnswer, GeneratedAnswer, HeaderAnswer, HeaderFields, KindAnswer, MessageAnswer, caps_read,
-    ci_encoded, generated, header_in, header_read, kind_found, message_read, muid_read,
+    CapsAnswer, GeneratedAnswer, HeaderAnswer, HeaderFields, KindAnswer, MessageAnswer,
 };
 use hub::answer::Answer;
 use midici_core::header::CiHeader;
@@ -22,13 +21,13 @@ use midici_core::pe_msg::PeMessage;
 pub fn codec_muid_from_u32(value: u32) -> Answer
     ensures { result ≡ answer_of (muid_from value) }
 {
-    muid_read(Muid::from_u32(value))
+    Muid::from_u32(value).map(|m| m.to_u32() as u64).into()
 }
 
 pub fn codec_muid_ordinary(value: u32) -> Answer
     ensures { result ≡ answer_of (ordinary_muid value) }
 {
-    muid_read(Muid::ordinary(value))
+    Muid::ordinary(value).map(|m| m.to_u32() as u64).into()
 }
 
 pub fn codec_muid_is_broadcast(value: u32) -> bool
@@ -52,26 +51,27 @@ pub fn codec_muid_encode_7bit_le(value: u32, out: &mut [u8; 4])
 pub fn codec_muid_decode_7bit_le(bytes: &[u8; 4]) -> Answer
     ensures { result ≡ answer_of (read_muid bytes.now) }
 {
-    muid_read(Muid::decode_7bit_le(bytes))
+    Muid::decode_7bit_le(bytes)
+        .map(|m| m.to_u32() as u64)
+        .into()
 }
 
 pub fn codec_muid_generate(words: &[u32]) -> GeneratedAnswer
     ensures { result ≡ generated_answer_of (first_ordinary words.now) }
 {
-    generated(Muid::generate(words))
+    Muid::generate(words).into()
 }
 
 pub fn codec_header_decode(body: &[u8]) -> HeaderAnswer
     ensures { result ≡ header_answer_of (read_header body.now) }
 {
-    header_read(CiHeader::decode(body))
+    CiHeader::decode(body).into()
 }
 
 pub fn codec_header_encode(header: HeaderFields, out: &mut [u8]) -> Answer
     ensures { written result out.new ≡ written_of (writing (write_header (header_in header) (length out.old)) out.old) }
 {
-    let header = header_in(header);
-    ci_encoded(header.encode(out))
+    CiHeader::from(header).encode(out).map(|n| n as u64).into()
 }
 
 pub fn codec_is_pe_chunked_sub_id(sub_id2: u8) -> bool
@@ -83,13 +83,13 @@ pub fn codec_is_pe_chunked_sub_id(sub_id2: u8) -> bool
 pub fn codec_kind_of(sub_id2: u8) -> KindAnswer
     ensures { result ≡ kind_answer_of (kind_of sub_id2) }
 {
-    kind_found(midici_core::spec::kind_of(sub_id2))
+    midici_core::spec::kind_of(sub_id2).into()
 }
 
 pub fn codec_caps_decode(body: &[u8]) -> CapsAnswer
     ensures { result ≡ caps_answer_of (read_caps body.now) }
 {
-    caps_read(PeCapabilities::decode(body))
+    PeCapabilities::decode(body).into()
 }
 
 pub fn codec_caps_encode(
@@ -103,24 +103,25 @@ pub fn codec_caps_encode(
         ≡ written_of (writing (write_caps (caps_in header simultaneous_requests pe_major pe_minor) (length out.old)) out.old) }
 {
     let caps = PeCapabilities {
-        header: header_in(header),
+        header: header.into(),
         simultaneous_requests,
         pe_major,
         pe_minor,
     };
-    ci_encoded(caps.encode(out))
+    caps.encode(out).map(|n| n as u64).into()
 }
 
 pub fn codec_message_decode(body: &[u8]) -> MessageAnswer
     ensures { result ≡ message_answer_of (read_message body.now) }
 {
-    message_read(PeMessage::decode(body))
+    PeMessage::decode(body).into()
 }
 
 pub fn codec_message_encode(header: HeaderFields, payload: &[u8], out: &mut [u8]) -> Answer
     ensures { written result out.new
         ≡ written_of (writing (write_message (header_in header) payload.now (length out.old)) out.old) }
 {
-    let header = header_in(header);
-    ci_encoded(PeMessage::encode(header, payload, out))
+    PeMessage::encode(header.into(), payload, out)
+        .map(|n| n as u64)
+        .into()
 }

@@ -1,59 +1,55 @@
-// What the examples print: a name, then numbers, bytes in two hexadecimal digits, or the refusal's number.
-use std::io;
+// What the examples print: a name, then the answer, or the refusal's number.
+use seven_bit::refusal::Refusal;
+use std::fmt::Display;
 use std::io::Write;
+use std::{fmt, io};
 
-pub(crate) fn text(to: &mut impl Write, s: &[u8]) -> io::Result<()> {
-    to.write_all(s)
-}
+// Bytes, in two hexadecimal digits each.
+#[derive(Clone, Copy)]
+pub(crate) struct Hex<'a>(&'a [u8]);
 
-pub(crate) fn number(to: &mut impl Write, n: u64) -> io::Result<()> {
-    write!(to, " {n}")
-}
-
-pub(crate) fn end(to: &mut impl Write) -> io::Result<()> {
-    text(to, b"\n")
-}
-
-// A number, and the line's end.
-pub(crate) fn last(to: &mut impl Write, n: u64) -> io::Result<()> {
-    number(to, n)?;
-    end(to)
-}
-
-pub(crate) fn refused(to: &mut impl Write, refusal: u8) -> io::Result<()> {
-    text(to, b" refused")?;
-    last(to, refusal as u64)
-}
-
-fn byte(to: &mut impl Write, b: u8) -> io::Result<()> {
-    write!(to, " {b:02x}")
-}
-
-fn byte_at(to: &mut impl Write, s: &[u8], i: usize) -> io::Result<()> {
-    if i < s.len() {
-        byte(to, s[i])?;
+impl Display for Hex<'_> {
+    fn fmt<W: fmt::Write>(&self, f: &mut fmt::Formatter<W>) -> fmt::Result {
+        if self.0.is_empty() {
+            return write!(f, " empty");
+        }
+        for b in self.0 {
+            write!(f, " {b:02x}")?;
+        }
+        Ok(())
     }
-    Ok(())
-}
-
-// The bytes, of which there are at most four.
-fn bytes(to: &mut impl Write, s: &[u8]) -> io::Result<()> {
-    if s.len() == 0 {
-        text(to, b" empty")?;
-    }
-    byte_at(to, s, 0)?;
-    byte_at(to, s, 1)?;
-    byte_at(to, s, 2)?;
-    byte_at(to, s, 3)
 }
 
 // The n bytes from at on.
-pub(crate) fn part(to: &mut impl Write, s: &[u8], at: usize, n: usize) -> io::Result<()> {
-    if at <= s.len() {
-        let rest = &s[at..];
-        if n <= rest.len() {
-            bytes(to, &rest[0..n])?;
-        }
+pub(crate) fn part(s: &[u8], at: usize, n: usize) -> Hex<'_> {
+    let rest = s.get(at..).unwrap_or(s);
+    Hex(rest.get(..n).unwrap_or(rest))
+}
+
+pub(crate) fn answer<T: Display + Copy, E: Refusal + Copy>(
+    to: &mut impl Write,
+    what: &str,
+    answer: Result<T, E>,
+) -> io::Result<()> {
+    match answer {
+        Ok(value) => writeln!(to, "{what} {value}"),
+        Err(e) => refused(to, what, e),
     }
-    Ok(())
+}
+
+pub(crate) fn refused<E: Refusal + Copy>(to: &mut impl Write, what: &str, e: E) -> io::Result<()> {
+    writeln!(to, "{what} refused {}", e.number())
+}
+
+// The first n bytes that were written, or why none was.
+pub(crate) fn written<E: Refusal + Copy>(
+    to: &mut impl Write,
+    what: &str,
+    answer: Result<usize, E>,
+    out: &[u8],
+) -> io::Result<()> {
+    match answer {
+        Ok(n) => writeln!(to, "{what}{}", part(out, 0, n)),
+        Err(e) => refused(to, what, e),
+    }
 }

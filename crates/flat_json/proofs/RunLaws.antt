@@ -9,8 +9,7 @@ use native.Mathlib.Omega.{arith}
 use borrow.Author.Tests.{ltb-true, ltb-false, lt-ltb}
 use lib.Dec.{ltb}
 use lib.ListN.{length, get_or, drop, drop_of_length-le}
-use lib.Seq.{ext_get_or, drop-cons}
-use native.Mathlib.Numerals.{add-one}
+use lib.Seq.{ext_get_or}
 use Rattle.flat_json.specs.Abnf.{Matches}
 use Rattle.flat_json.specs.Grammar.{residual, residuals, json_text}
 use Rattle.flat_json.specs.Table.{RightTable, entry, next, run, start, done, dead}
@@ -29,11 +28,7 @@ next_state table right s b = go (ltb s 30) (ltb b 128) refl refl
     go true false e f = omega arith
     go false u e f = omega arith
 
--- the reading of a text, from a place of it on
-pub run_next : (table text : List ℕ) (s i : ℕ) → i < length text → run table s (drop i text) ≡ run table (next table s (get_or text i 0)) (drop (i + 1) text)
-unfolding run
-run_next table text s i h = rw (drop-cons text i 0 h, add-one i)
-
+-- the reading of a text, from its end on
 pub run_end : (table text : List ℕ) (s i : ℕ) → length text ≤ i → run table s (drop i text) ≡ s
 unfolding run
 run_end table text s i h = rw (drop_of_length-le text h)

@@ -9,20 +9,19 @@ ghost use Rattle.flat_json.specs.Table.{next, turned, reached};
 use crate::states::{DEAD, STATES};
 
 // Where a reading stands: a place of the text, and the state there.
-#[derive(Clone, Copy)]
+#[derive(Clone, Copy, Debug, PartialEq, Eq)]
 pub struct Spot {
     pub place: usize,
     pub state: u8,
 }
 
 // The state after one byte more.
+#[tactic(auto, unfolding(crate::specs::Table::next, crate::specs::Table::entry))]
 pub fn step(table: &[u8; 3840], state: u8, b: u8) -> u8
     ensures { result ≡ next table.now state b }
 {
-    if state < STATES {
-        if b < 128 {
-            return table[state as usize * 128 + b as usize];
-        }
+    if state < STATES && b < 128 {
+        return table[state as usize * 128 + b as usize];
     }
     DEAD
 }
@@ -31,19 +30,19 @@ pub fn step(table: &[u8; 3840], state: u8, b: u8) -> u8
 pub fn turn(table: &[u8; 3840], text: &[u8], at: Spot) -> Spot
     ensures { result ≡ turned table.now text.now at }
 {
-    let state = at.state;
-    let mut i = at.place;
-    while i < text.len() {
-        let next = step(table, state, text[i]);
-        i += 1;
-        if next != state {
+    for i in at.place..text.len() {
+        let next = step(table, at.state, text[i]);
+        if next != at.state {
             return Spot {
-                place: i,
+                place: i + 1,
                 state: next,
             };
         }
     }
-    Spot { place: i, state }
+    Spot {
+        place: at.place.max(text.len()),
+        state: at.state,
+    }
 }
 
 // Reads on until the state is `stop`, or to the text's end.
@@ -51,10 +50,7 @@ pub fn reach(table: &[u8; 3840], text: &[u8], at: Spot, stop: u8) -> Spot
     ensures { result ≡ reached table.now text.now at stop }
 {
     let mut here = at;
-    while here.place < text.len() {
-        if here.state == stop {
-            return here;
-        }
+    while here.place < text.len() && here.state != stop {
         here = turn(table, text, here);
     }
     here

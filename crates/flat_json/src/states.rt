@@ -2,6 +2,7 @@
 ghost use Rattle.flat_json.specs.Table.{RightTable};
 
 // The states that code names; specs/Grammar.antt has what may follow in each of the 30.
+// They are numbers, not an enum: an entry of the table is one, and is looked up by one.
 pub const STATES: u8 = 30;
 
 pub const START: u8 = 0;

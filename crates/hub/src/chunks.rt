@@ -8,40 +8,45 @@ ghost use Rattle.pe_frame.specs.Chunk.{chunk_from};
 ghost use Rattle.hub.specs.Answers.{answer_of, left, written, written_of};
 ghost use Rattle.hub.specs.Chunks.{cut_answer_of, all_cut_of};
 
-use crate::answer::{Answer, chunks_counted, pe_encoded};
+use crate::answer::Answer;
 use midici_core::muid::Muid;
 use pe_chunker::split::Chunked;
+use pe_wire::error::PeError;
+use seven_bit::refusal::Refusal;
 
 // How many chunks the header and the body are cut into.
 pub fn midici_pe_chunk_count(request_id: u8, header: &[u8], body: &[u8], max_sysex: u32) -> Answer
     ensures { result ≡ answer_of (cut_count request_id header.now body.now max_sysex) }
 {
-    chunks_counted(pe_chunker::chunk_count(request_id, header, body, max_sysex))
+    pe_chunker::chunk_count(request_id, header, body, max_sysex)
+        .map(|n| n as u64)
+        .into()
 }
 
 // The refusal's number, 0 where there is none; how many chunks there are, and how many bytes in all of them, both 0 with a refusal.
 #[repr(C)]
-#[derive(Clone, Copy)]
+#[derive(Clone, Copy, Default)]
 pub struct CutAnswer {
     pub refusal: u8,
     pub chunks: u64,
     pub bytes: u64,
 }
 
-pub fn all_cut(a: Chunked) -> CutAnswer
-    ensures { result ≡ cut_answer_of (chunked_told a) }
-{
-    match a {
-        Chunked::Written(chunks, bytes) => CutAnswer {
-            refusal: 0,
-            chunks: chunks as u64,
-            bytes: bytes as u64,
-        },
-        Chunked::Refused(e) => CutAnswer {
-            refusal: e.number(),
-            chunks: 0,
-            bytes: 0,
-        },
+impl From<Result<Chunked, PeError>> for CutAnswer {
+    ghost from_gives = { λ r answer. answer ≡ cut_answer_of (chunked_told r) };
+
+    fn from(r: Result<Chunked, PeError>) -> CutAnswer {
+        match r {
+            Ok(all) => CutAnswer {
+                chunks: all.chunks as u64,
+                bytes: all.bytes as u64,
+                ..CutAnswer::default()
+            },
+            Err(e) => CutAnswer {
+                refusal: e.number(),
+                ..CutAnswer::default()
+            },
+        }
     }
 }
 
@@ -58,7 +63,7 @@ pub fn midici_pe_split(
         ≡ all_cut_of (splitting (cut_list request_id header.now body.now max_sysex (length out.old)
         (length lengths.old)) out.old lengths.old) }
 {
-    all_cut(pe_chunker::split::split(request_id, header, body, max_sysex, out, lengths))
+    pe_chunker::split::split(request_id, header, body, max_sysex, out, lengths).into()
 }
 
 // Writes chunk number chunk_num of them into out.
@@ -74,7 +79,9 @@ pub fn midici_pe_split_chunk(
         ≡ written_of (writing (cut_chunk request_id header.now body.now max_sysex chunk_num
         (length out.old)) out.old) }
 {
-    pe_encoded(pe_chunker::split_chunk(request_id, header, body, max_sysex, chunk_num, out))
+    pe_chunker::split_chunk(request_id, header, body, max_sysex, chunk_num, out)
+        .map(|n| n as u64)
+        .into()
 }
 
 // Writes a CI header (device 7F, version 2) and a chunk behind it into out.
@@ -94,7 +101,7 @@ pub fn midici_pe_encode_message(
         (chunk_from request_id header.now num_chunks chunk_num property.now) (length out.old))
         out.old) }
 {
-    pe_encoded(pe_frame::message::encode_message(
+    pe_frame::message::encode_message(
         sub_id2,
         Muid(source),
         Muid(dest),
@@ -104,5 +111,7 @@ pub fn midici_pe_encode_message(
         chunk_num,
         property,
         out,
-    ))
+    )
+    .map(|n| n as u64)
+    .into()
 }

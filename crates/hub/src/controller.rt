@@ -16,10 +16,10 @@ pub struct RequestId {
 pub fn midici_pe_alloc_out_request_id(counter: u8) -> RequestId
     ensures { result ≡ record { request_id = counter; counter = stepped counter } }
 {
-    let counter = RequestCounter { next: counter };
-    let allocated = counter.alloc_out_request_id();
+    let mut counter = RequestCounter { next: counter };
+    let request_id = counter.alloc_out_request_id();
     RequestId {
-        request_id: allocated.request_id,
-        counter: allocated.counter.next,
+        request_id,
+        counter: counter.next,
     }
 }

@@ -1,4 +1,5 @@
-// The reassembler's calls, but for the whole-message entry (crate hub_message). Shape and memory of a table are named with each call.
+// The reassembler's calls, but for the whole-message entry (crate hub_message). Shape and memory of a table are named with each call, as
+// include/midici_pe.h has them.
 ghost use Rattle.std.specs.Prelude.{◌≡◌};
 ghost use Rattle.pe_reassembler.specs.Calls.{new_call, cancel_call, drop_call, stats_call, reserved_call};
 ghost use Rattle.pe_reassembler.specs.Feed.{memory, feed_call};
@@ -7,7 +8,7 @@ ghost use Rattle.pe_reassembler.specs.Poll.{poll_call};
 ghost use Rattle.hub.specs.Answers.{answer_of, stats_answer_of, left};
 ghost use Rattle.hub.specs.Table.{made_of, cancelled_of, dropped_of, fed_of, polled_of, listed_of};
 
-use crate::answer::{Answer, FedAnswer, StatsAnswer, cancelled, fed, made, number_counted, stats};
+use crate::answer::{Answer, FedAnswer, StatsAnswer};
 use pe_reassembler::shape::Shape;
 use pe_reassembler::{calls, feed, open, poll};
 
@@ -22,7 +23,9 @@ pub fn midici_pe_new(
     ensures { left result (numbers.new, index.new)
         ≡ made_of (new_call shape numbers.old index.old headers.now arenas.now) }
 {
-    made(calls::new(shape, numbers, index, headers, arenas))
+    calls::new(shape, numbers, index, headers, arenas)
+        .map(|()| 0)
+        .into()
 }
 
 // Feeds a chunk of a peer; a whole list goes into the two outputs.
@@ -43,23 +46,26 @@ pub fn midici_pe_feed(
         ≡ fed_of (feed_call shape (memory numbers.old index.old headers.old arenas.old
         out_header.old out_body.old) peer raw_chunk.now now_ms) }
 {
-    fed(feed::feed(
+    feed::feed(
         shape, numbers, index, headers, arenas, peer, raw_chunk, now_ms, out_header, out_body,
-    ))
+    )
+    .into()
 }
 
 // Closes the slot of a peer that is open with a request id: 1 where there was one, else 0.
 pub fn midici_pe_cancel(shape: Shape, numbers: &mut [u64], peer: u32, request_id: u8) -> Answer
     ensures { left result numbers.new ≡ cancelled_of (cancel_call shape numbers.old peer request_id) }
 {
-    cancelled(calls::cancel(shape, numbers, peer, request_id))
+    calls::cancel(shape, numbers, peer, request_id)
+        .map(|closed| closed as u64)
+        .into()
 }
 
 // Closes all slots of a peer and unbinds its record: how many there were.
 pub fn midici_pe_drop_peer(shape: Shape, numbers: &mut [u64], peer: u32) -> Answer
     ensures { left result numbers.new ≡ dropped_of (drop_call shape numbers.old peer) }
 {
-    number_counted(calls::drop_peer(shape, numbers, peer))
+    calls::drop_peer(shape, numbers, peer).into()
 }
 
 // Closes each slot whose time is up, and lists its peer and request id: how many there are.
@@ -73,7 +79,7 @@ pub fn midici_pe_poll(
     ensures { left result (numbers.new, out_peers.new, out_request_ids.new)
         ≡ polled_of (poll_call shape numbers.old now_ms out_peers.old out_request_ids.old) }
 {
-    number_counted(poll::poll(shape, numbers, now_ms, out_peers, out_request_ids))
+    poll::poll(shape, numbers, now_ms, out_peers, out_request_ids).into()
 }
 
 // Lists peer, request id and chunks held of each open slot, by tick, peer, request id and place: how many there are.
@@ -87,19 +93,19 @@ pub fn midici_pe_open_list(
     ensures { left result (out_peers.new, out_request_ids.new, out_chunks_held.new)
         ≡ listed_of (open_call shape numbers.now out_peers.old out_request_ids.old out_chunks_held.old) }
 {
-    number_counted(open::open_list(shape, numbers, out_peers, out_request_ids, out_chunks_held))
+    open::open_list(shape, numbers, out_peers, out_request_ids, out_chunks_held).into()
 }
 
 // What the rooms take and what is open in them.
 pub fn midici_pe_memory_stats(shape: Shape, numbers: &[u64]) -> StatsAnswer
     ensures { result ≡ stats_answer_of (stats_call shape numbers.now) }
 {
-    stats(calls::memory_stats(shape, numbers))
+    calls::memory_stats(shape, numbers).into()
 }
 
 // The bytes that the rooms of a table take.
 pub fn midici_pe_reserved_bytes(shape: Shape) -> Answer
     ensures { result ≡ answer_of (reserved_call shape) }
 {
-    number_counted(calls::reserved_bytes(shape))
+    calls::reserved_bytes(shape).into()
 }

@@ -7,7 +7,7 @@ ghost use Rattle.pe_reassembler.specs.Feed.{memory, message_call};
 ghost use Rattle.hub.specs.Answers.{left};
 ghost use Rattle.hub.specs.Table.{fed_of};
 
-use hub::answer::{FedAnswer, fed};
+use hub::answer::FedAnswer;
 use pe_reassembler::feed::feed_message;
 use pe_reassembler::shape::Shape;
 
@@ -29,7 +29,8 @@ pub extern "C" fn midici_pe_feed_message(
         ≡ fed_of (message_call shape (memory numbers.old index.old headers.old arenas.old
         out_header.old out_body.old) body.now now_ms) }
 {
-    fed(feed_message(
+    feed_message(
         shape, numbers, index, headers, arenas, body, now_ms, out_header, out_body,
-    ))
+    )
+    .into()
 }

@@ -29,6 +29,13 @@ pub cut_high_body : {A : Type 0} (id : ℕ) (header body : List ℕ) (limit : �
 unfolding ask_cut
 cut_high_body id header body limit next i s b = rw (le-leb _ _ i, s, b)
 
+pub cut_many : {A : Type 0} (id : ℕ) (header body : List ℕ) (limit : ℕ) (next : Reply A) → id ≤ 127 → is_seven_bit header ≡ true → is_seven_bit body ≡ true
+    → length header ≤ 4096 → length header ≤ later_capacity limit → 16383 < length (body_pieces limit (length header) body)
+    → ask_cut id header body limit next ≡ refused 5 0
+unfolding ask_cut
+cut_many id header body limit next i s b h w m =
+    rw (le-leb _ _ i, s, b, le-leb _ _ h, first_granted limit (length header) w, lt-leb _ _ m)
+
 pub cut_long : {A : Type 0} (id : ℕ) (header body : List ℕ) (limit : ℕ) (next : Reply A) → id ≤ 127 → is_seven_bit header ≡ true → is_seven_bit body ≡ true
     → 4096 < length header → ask_cut id header body limit next ≡ refused 4 0
 unfolding ask_cut
@@ -38,14 +45,6 @@ pub cut_wide : {A : Type 0} (id : ℕ) (header body : List ℕ) (limit : ℕ) (n
     → length header ≤ 4096 → later_capacity limit < length header → ask_cut id header body limit next ≡ refused 4 0
 unfolding ask_cut
 cut_wide id header body limit next i s b h w = rw (le-leb _ _ i, s, b, le-leb _ _ h, first_refused limit (length header) w)
-
--- the last question's two answers
-pub cut_many : {A : Type 0} (id : ℕ) (header body : List ℕ) (limit : ℕ) (next : Reply A) → id ≤ 127 → is_seven_bit header ≡ true → is_seven_bit body ≡ true
-    → length header ≤ 4096 → length header ≤ later_capacity limit → 16383 < length (body_pieces limit (length header) body)
-    → ask_cut id header body limit next ≡ refused 5 0
-unfolding ask_cut
-cut_many id header body limit next i s b h w m =
-    rw (le-leb _ _ i, s, b, le-leb _ _ h, first_granted limit (length header) w, lt-leb _ _ m)
 
 pub cut_asked : {A : Type 0} (id : ℕ) (header body : List ℕ) (limit : ℕ) (next : Reply A) → Cut id header body limit → ask_cut id header body limit next ≡ next
 unfolding ask_cut

@@ -11,12 +11,14 @@ use lib.ListN.{length, get_or, take, drop}
 use lib.Seq.{take-length}
 use Rattle.seven_bit.specs.Reply.{Reply, granted, refused, Outcome, outcome, writing}
 use Rattle.seven_bit.specs.SevenBit.{is_seven_bit}
-use Rattle.seven_bit.proofs.PartLaws.{part_none}
+use Rattle.seven_bit.proofs.PartLaws.{part_none, fit_no, fit_front}
 use Rattle.seven_bit.proofs.ReplyLaws.{asked, and_told}
 use Rattle.pe_frame.specs.Chunk.{chunk_from, within_count}
 use Rattle.pe_frame.specs.Write.{chunk_len, write_chunk}
-use Rattle.pe_frame.proofs.ChunkLaws.{InRange, ask_yes}
+use Rattle.pe_frame.proofs.ChunkLaws.{InRange, ask_yes, chunk_length, write_granted, write_short}
 use Rattle.pe_chunker.specs.Cut.{budget, later_capacity, body_pieces, chunk_at, cut_count, cut_chunk, Sized, CountedLeft, counted, counted_told, counting}
+use Rattle.std.specs.Prelude.{Result}
+use Rattle.pe_wire.specs.declared.error.PeError.{PeError}
 use Rattle.pe_chunker.specs.declared.Counted.{Counted}
 use Rattle.pe_chunker.proofs.CutLaws.{later_is, later_between}
 use Rattle.pe_chunker.proofs.PieceLaws.{first_short, later_short, first_full, later_full, piece_bytes}
@@ -157,7 +159,11 @@ pub counted_wrote : (count : ℕ) (bytes out after : List ℕ) (n len : ℕ) →
     → counted (granted (record { num_chunks = n; len = len })) after ≡ counting count (granted bytes) out
 counted_wrote count bytes out after n len c e f = rw (c, ← e, f)
 
--- and without it
+-- for the function that writes one
+pub ruleset cuts =
+    (chunk_refused, count_told, chunk_none, chunk_past, chunk_written, chunk_in_range, counted_wrote, chunk_length, write_granted, write_short, fit_no, fit_front)
+
+-- the same without the count
 abbrev pub length_told : Reply Sized → Reply ℕ
 length_told (granted s) = granted s.len
 length_told (refused number value) = refused number value
@@ -165,7 +171,7 @@ length_told (refused number value) = refused number value
 abbrev uncounted : CountedLeft → Outcome
 uncounted l = outcome (length_told l.answer) l.out
 
-pub writing_counted : (count : ℕ) (r : Reply (List ℕ)) (out after : List ℕ) (x y : Counted) → x ≡ y → counted (counted_told x) after ≡ counting count r out
+pub writing_counted : (count : ℕ) (r : Reply (List ℕ)) (out after : List ℕ) (x y : Result Counted PeError) → x ≡ y → counted (counted_told x) after ≡ counting count r out
     → outcome (length_told (counted_told y)) after ≡ writing r out
-writing_counted count (granted bytes) out after x y e q = sym (ap (λ (z : Counted). outcome (length_told (counted_told z)) after) e) ∙ ap uncounted q
-writing_counted count (refused number value) out after x y e q = sym (ap (λ (z : Counted). outcome (length_told (counted_told z)) after) e) ∙ ap uncounted q
+writing_counted count (granted bytes) out after x y e q = sym (ap (λ (z : Result Counted PeError). outcome (length_told (counted_told z)) after) e) ∙ ap uncounted q
+writing_counted count (refused number value) out after x y e q = sym (ap (λ (z : Result Counted PeError). outcome (length_told (counted_told z)) after) e) ∙ ap uncounted q

@@ -18,7 +18,7 @@ use Rattle.seven_bit.proofs.PartLaws.{length_part}
 use Rattle.seven_bit.proofs.SevenBitLaws.{seven_bit_part}
 use Rattle.seven_bit.proofs.ReplyLaws.{both}
 use Rattle.pe_chunker.specs.Cut.{later_capacity, first_capacity, body_pieces}
-use Rattle.pe_chunker.proofs.CutLaws.{later_between, first_is, joined_cut, length_cut, piece_cut}
+use Rattle.pe_chunker.proofs.CutLaws.{later_between, first_is, first_granted, first_refused, joined_cut, length_cut, piece_cut}
 
 -- what the first chunk leaves is no longer than the body
 left_fits : (a : ℕ) (body : List ℕ) → length (drop a body) ≤ length body
@@ -169,3 +169,6 @@ later_full limit header_len i body h =
     let l : m - header_len + suc i * m < length body = ends_inside limit header_len (suc i) body h in
     let z : suc i * m ≡ i * m + m = suc-mul i m in
     rw (piece_later limit header_len i body) (length_part (m - header_len + i * m) m body (omega arith))
+
+-- for the function that counts
+pub ruleset counts = (later_between, first_granted, first_refused, pieces_count)

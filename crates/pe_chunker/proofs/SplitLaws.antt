@@ -23,6 +23,7 @@ use Rattle.pe_chunker.specs.Split.{first_chunks, all_chunks, cut_list, split_lef
 use Rattle.pe_chunker.proofs.CutLaws.{later_between}
 use Rattle.pe_chunker.proofs.PieceLaws.{pieces_count, piece_length}
 use Rattle.pe_chunker.proofs.AskLaws.{cut_asked, cut_told, cut_refused}
+use Rattle.pe_chunker.proofs.ChunkLaws.{count_told}
 
 -- one piece more
 joined_last : (xs : List (List ℕ)) (y : List ℕ) → joined (xs ++ (y ∷ [])) ≡ joined xs ++ y
@@ -203,3 +204,6 @@ module _ (id : ℕ) (header body : List ℕ) (limit : ℕ) where
         → cut_list id header body limit room places ≡ granted (all_chunks id header body limit)
     unfolding cut_list
     list_granted c h p = cut_asked id header body limit _ c ∙ rw (le-leb _ _ h, le-leb _ _ p)
+
+-- for the function that writes all
+pub ruleset splits = (count_told, later_between, first_length, all_bytes, list_refused, list_short, list_few)

@@ -1,14 +1,13 @@
 -- A header and a body cut into chunks (document 01, module 6, and the questions under **Cut**).
 -- Assumes nothing.
-use Rattle.std.specs.Prelude.{ℕ, zero, suc, ◌+◌, ◌-◌, ◌≤◌, true, cond, ◌&&◌, List, [], ◌∷◌, ◌++◌, ◌≡◌, leb, ltb, eqb, length, get_or, take, drop}
+use Rattle.std.specs.Prelude.{ℕ, zero, suc, ◌+◌, ◌-◌, ◌≤◌, true, cond, ◌&&◌, List, [], ◌∷◌, ◌++◌, ◌≡◌, leb, ltb, eqb, length, get_or, take, drop, Result}
 use Rattle.seven_bit.specs.Reply.{Reply, granted, refused, ◌else◌then◌, and_next}
 use Rattle.seven_bit.specs.SevenBit.{is_seven_bit}
 use Rattle.midici_core.specs.Header.{Header, bytes_of_header}
-use Rattle.pe_wire.specs.Errors.{pe_refused}
+use Rattle.pe_wire.specs.Errors.{pe_told}
+use Rattle.pe_wire.specs.declared.error.PeError.{PeError}
 use Rattle.pe_frame.specs.Chunk.{Chunk}
 use Rattle.pe_frame.specs.Write.{chunk_bytes, chunk_len}
-use Rattle.pe_chunker.specs.declared.Capacity.{Capacity}
-use Rattle.pe_chunker.specs.declared.ChunkCount.{ChunkCount}
 use Rattle.pe_chunker.specs.declared.Counted.{Counted}
 
 -- Document 02, K6: "The upper clamp rises to 16,384".
@@ -99,14 +98,6 @@ cut_chunk request_id header body limit k room =
 abbrev pub message : Header → Chunk → List ℕ
 message ci c = 0xF0 ∷ bytes_of_header ci ++ chunk_bytes c ++ (0xF7 ∷ [])
 
-abbrev pub capacity_told : Capacity → Reply ℕ
-capacity_told (Capacity.Bytes n) = granted n
-capacity_told (Capacity.Refused e) = pe_refused e
-
-abbrev pub chunk_count_told : ChunkCount → Reply ℕ
-chunk_count_told (ChunkCount.Chunks n) = granted n
-chunk_count_told (ChunkCount.Refused e) = pe_refused e
-
 -- The answer with the count: how many chunks there are, and how many bytes this one has. And the lent output.
 pub record Sized : Type 0 where
   pub num_chunks : ℕ
@@ -119,9 +110,8 @@ pub record CountedLeft : Type 0 where
 abbrev pub counted : Reply Sized → List ℕ → CountedLeft
 counted answer out = record { answer = answer; out = out }
 
-abbrev pub counted_told : Counted → Reply Sized
-counted_told (Counted.Wrote n len) = granted (record { num_chunks = n; len = len })
-counted_told (Counted.Refused e) = pe_refused e
+abbrev pub counted_told : Result Counted PeError → Reply Sized
+counted_told r = pe_told (λ c. record { num_chunks = c.num_chunks; len = c.len }) r
 
 -- `writing`, with the count on a grant.
 abbrev pub counting : ℕ → Reply (List ℕ) → List ℕ → CountedLeft

@@ -1,12 +1,15 @@
 -- A list cut into all its chunks at once (document 01: "`split` returns `Vec<Vec<u8>>`").
 -- Assumes nothing.
-use Rattle.std.specs.Prelude.{ℕ, zero, suc, List, [], ◌∷◌, ◌++◌, map, leb, length, drop}
+use Rattle.std.specs.Prelude.{ℕ, zero, suc, List, [], ◌∷◌, ◌++◌, map, ◌≡◌, leb, length, drop, Result}
 use Rattle.seven_bit.specs.Parts.{joined}
 use Rattle.seven_bit.specs.Reply.{Reply, granted, refused, ◌else◌then◌}
-use Rattle.pe_wire.specs.Errors.{pe_refused}
+use Rattle.pe_wire.specs.Errors.{pe_told}
+use Rattle.pe_wire.specs.declared.error.PeError.{PeError}
+use Rattle.pe_frame.specs.Chunk.{Chunk}
 use Rattle.pe_frame.specs.Write.{chunk_bytes}
+use Rattle.pe_chunker.specs.declared.piece.CutList.{CutList}
 use Rattle.pe_chunker.specs.declared.split.Chunked.{Chunked}
-use Rattle.pe_chunker.specs.Cut.{body_pieces, chunk_at, ask_cut}
+use Rattle.pe_chunker.specs.Cut.{body_pieces, chunk_at, ask_cut, Cut}
 
 -- The first n chunks, each as `cut_chunk` grants it.
 unfoldable pub first_chunks : ℕ → List ℕ → List ℕ → ℕ → ℕ → List (List ℕ)
@@ -31,9 +34,8 @@ pub record Sizes : Type 0 where
   pub chunks : ℕ
   pub bytes : ℕ
 
-abbrev pub chunked_told : Chunked → Reply Sizes
-chunked_told (Chunked.Written chunks bytes) = granted (record { chunks = chunks; bytes = bytes })
-chunked_told (Chunked.Refused e) = pe_refused e
+abbrev pub chunked_told : Result Chunked PeError → Reply Sizes
+chunked_told r = pe_told (λ c. record { chunks = c.chunks; bytes = c.bytes }) r
 
 -- The answer, the buffer, and the column of lengths.
 pub record SplitLeft : Type 0 where
@@ -52,3 +54,15 @@ splitting (granted chunks) out lengths =
     (joined chunks ++ drop (length (joined chunks)) out)
     (map length chunks ++ drop (length chunks) lengths)
 splitting (refused number value) out lengths = split_left (refused number value) out lengths
+
+-- A list of the code with its number of chunks, of which all questions of the cut had a yes.
+pub record IsCut (l : CutList) : Type 0 where
+  pub asked : Cut l.request_id l.header.now l.body.now l.max_sysex
+  pub count : length (body_pieces l.max_sysex (length l.header.now) l.body.now) ≡ l.num_chunks
+
+-- Its chunk of a number, and all of them.
+abbrev pub chunk_in : CutList → ℕ → Chunk
+chunk_in l k = chunk_at l.request_id l.header.now l.body.now l.max_sysex k
+
+abbrev pub chunks_in : CutList → List (List ℕ)
+chunks_in l = all_chunks l.request_id l.header.now l.body.now l.max_sysex

@@ -5,16 +5,9 @@ ghost use Rattle.std.specs.Prelude.{◌≡◌};
 ghost use Rattle.pe_controller.specs.Controller.{stepped, negotiated};
 
 // The counter of request ids, any of 256 values.
-#[derive(Clone, Copy)]
+#[derive(Clone, Copy, Debug, PartialEq, Eq)]
 pub struct RequestCounter {
     pub next: u8,
-}
-
-// The id that is handed out, and the counter after it.
-#[derive(Clone, Copy)]
-pub struct Allocated {
-    pub request_id: u8,
-    pub counter: RequestCounter,
 }
 
 impl RequestCounter {
@@ -25,23 +18,23 @@ impl RequestCounter {
         RequestCounter { next: 1 }
     }
 
-    pub fn alloc_out_request_id(self) -> Allocated
-        ensures { result ≡ record { request_id = self.next; counter = record { next = stepped self.next } } }
+    // Hands out the number that is next, and steps the counter.
+    #[tactic(auto, unfolding(crate::specs::Controller::stepped))]
+    pub fn alloc_out_request_id(&mut self) -> u8
+        ensures request_id { result ≡ self.old.next }
+        ensures counter { self.new ≡ record { next = stepped self.old.next } }
     {
-        let next = std::num::wrapping_add_u8(self.next, 1) % 128;
-        Allocated {
-            request_id: self.next,
-            counter: RequestCounter {
-                next: if next == 0 { 1 } else { next },
-            },
-        }
+        let request_id = self.next;
+        let next = request_id.wrapping_add(1) % 128;
+        self.next = if next == 0 { 1 } else { next };
+        request_id
     }
 }
 
 // The smaller of both sides' simultaneous requests, at least 1.
+#[tactic(auto, unfolding(crate::specs::Controller::negotiated))]
 pub fn negotiated_requests(ours: u8, theirs: u8) -> u8
     ensures { result ≡ negotiated ours theirs }
 {
-    let smaller = if ours <= theirs { ours } else { theirs };
-    if smaller == 0 { 1 } else { smaller }
+    ours.min(theirs).max(1)
 }

@@ -13,9 +13,9 @@ use lib.Seq.{get_or-take, take_all}
 use Rattle.seven_bit.specs.Parts.{part, put, put_fit}
 use Rattle.seven_bit.specs.Reply.{Reply, granted, refused, ◌else◌then◌, and_next}
 use Rattle.seven_bit.specs.SevenBit.{is_seven_bit, number_of, bytes_of}
-use Rattle.seven_bit.proofs.PartLaws.{put_put, fit_yes, length_put}
+use Rattle.seven_bit.proofs.PartLaws.{put_put, put_front, fit_yes, fit_no, length_put}
 use Rattle.seven_bit.proofs.SevenBitLaws.{seven_bit_at, bytes_length}
-use Rattle.seven_bit.proofs.ReplyLaws.{both, asked, then_else}
+use Rattle.seven_bit.proofs.ReplyLaws.{both, asked, then_else, wrote}
 use Rattle.pe_wire.specs.Wire.{read_u14}
 use Rattle.pe_frame.specs.Chunk.{Chunk, Fields, within_count, read_end, read_fields}
 use Rattle.pe_frame.specs.Write.{ask_chunk, chunk_len, chunk_bytes, put_chunk, write_chunk}
@@ -186,12 +186,12 @@ pub put_small : (c : Chunk) (out : List ℕ) (at : ℕ) → length c.header ≤ 
 unfolding put_chunk
 put_small c out at h p n k = rw (le-leb _ _ h, le-leb _ _ p, le-leb _ _ n, le-leb _ _ k)
 
-pub write_granted : (c : Chunk) (room : ℕ) → InRange c → 9 + length c.header + length c.property ≤ room → write_chunk c room ≡ granted (chunk_bytes c)
-unfolding write_chunk chunk_len
+pub write_granted : (c : Chunk) (room : ℕ) → InRange c → chunk_len c ≤ room → write_chunk c room ≡ granted (chunk_bytes c)
+unfolding write_chunk
 write_granted c room r h = ask_yes c _ r ∙ rw (le-leb _ _ h)
 
-pub write_short : (c : Chunk) (room : ℕ) → InRange c → room < 9 + length c.header + length c.property → write_chunk c room ≡ refused 3 0
-unfolding write_chunk chunk_len
+pub write_short : (c : Chunk) (room : ℕ) → InRange c → room < chunk_len c → write_chunk c room ≡ refused 3 0
+unfolding write_chunk
 write_short c room r h = ask_yes c _ r ∙ rw (lt-leb _ _ h)
 
 pub write_refused : (c : Chunk) (room x number value : ℕ) → ask_chunk c (granted x) ≡ refused number value → write_chunk c room ≡ refused number value
@@ -249,3 +249,8 @@ pub fit_on : (out after ys zs : List ℕ) (at b : ℕ) → after ≡ put out at 
 fit_on out after ys zs at b e h r =
     fit_yes after b zs (rw (e, length_put out at ys) r)
     ∙ put_on out after ys zs at b e h
+
+-- for the functions that write a chunk, and that store one
+pub ruleset writes = (ask_told, write_refused, write_short, write_granted, chunk_length, put_front, wrote)
+
+pub ruleset stores = (fit_yes, fit_no, chunk_length)

@@ -14,15 +14,6 @@ use Rattle.seven_bit.specs.SevenBit.{is_seven_bit, number_of}
 use Rattle.seven_bit.proofs.PartLaws.{part_none, part_next}
 use Rattle.pe_wire.specs.Wire.{read_u14}
 
--- the number of two bytes
-pub number_two : (s : List ℕ) (at : ℕ) → at + 2 ≤ length s → number_of (part at 2 s) ≡ get_or s at 0 + get_or s (at + 1) 0 * 128
-unfolding number_of
-number_two s at h =
-    let e : number_of (part at 2 s) ≡ get_or s at 0 + 128 * number_of (part (at + 1) 1 s) = ap number_of (part_next at 1 s 0 (omega arith)) in
-    let f : number_of (part (at + 1) 1 s) ≡ get_or s (at + 1) 0 + 128 * number_of (part (at + 1 + 1) 0 s) = ap number_of (part_next (at + 1) 0 s 0 (omega arith)) in
-    let g : number_of (part (at + 1 + 1) 0 s) ≡ 0 = ap number_of (part_none (at + 1 + 1) s) in
-    omega arith
-
 -- the first byte of a part, and its others
 low_first : (s : List ℕ) (at k : ℕ) → at < length s → is_seven_bit (part at (suc k) s) ≡ cond (leb (get_or s at 0) 127) (is_seven_bit (part (at + 1) k s)) false
 unfolding is_seven_bit

@@ -9,10 +9,21 @@ use borrow.Author.Tests.{le-leb, lt-leb, leb-true, leb-false}
 use lib.Dec.{leb}
 use lib.ListN.{length, get_or, set, take, drop, length-drop, take-append-drop}
 use lib.Seq.{drop-drop, take-add, take_all, take-take}
+use Rattle.std.specs.List.{list_all}
 use Rattle.seven_bit.specs.Parts.{part}
 use Rattle.seven_bit.specs.SevenBit.{is_seven_bit}
 use Rattle.seven_bit.proofs.PartLaws.{part_none, part_next}
 use Rattle.seven_bit.proofs.SevenBitLaws.{seven_bit_at, seven_bit_take, seven_bit_drop, seven_bit_behind, gather_end}
+
+-- std's question of each byte is that of the contract
+pub all_low_is : (xs : List ℕ) → list_all (λ b. leb b 127) xs ≡ is_seven_bit xs
+unfolding is_seven_bit
+all_low_is [] = refl
+all_low_is (x ∷ xs) = go (leb x 127) (all_low_is xs)
+  where
+    go : (b : Bool) → list_all (λ y. leb y 127) xs ≡ is_seven_bit xs → (b && list_all (λ y. leb y 127) xs) ≡ cond b (is_seven_bit xs) false
+    go true e = e
+    go false e = refl
 
 -- a part and what follows it
 both_parts : (xs ys : List ℕ) → is_seven_bit (xs ++ ys) ≡ (is_seven_bit xs && is_seven_bit ys)
@@ -42,27 +53,11 @@ pub from_start : (h : ℕ) (s : List ℕ) → part 0 h s ≡ take h s
 from_start h [] = refl
 from_start h (x ∷ xs) = refl
 
-pub front_none : (s : List ℕ) → is_seven_bit (take 0 s) ≡ true
-unfolding is_seven_bit
-front_none [] = refl
-front_none (x ∷ xs) = refl
-
-pub front_next : (s : List ℕ) (i : ℕ) → i < length s → is_seven_bit (take i s) ≡ true → get_or s i 0 ≤ 127 → is_seven_bit (take (i + 1) s) ≡ true
-front_next s i l t h = past_front i 1 s t ∙ one_part s i l ∙ le-leb _ _ h
-
 front_less : (s : List ℕ) (h n : ℕ) → is_seven_bit (take h s) ≡ true → n ≤ h → is_seven_bit (take n s) ≡ true
 front_less s h n t l = ap is_seven_bit (sym (take-take n h s l)) ∙ seven_bit_take n (take h s) t
 
 pub front_part : (s : List ℕ) (h a k : ℕ) → is_seven_bit (take h s) ≡ true → a + k ≤ h → is_seven_bit (part a k s) ≡ true
 front_part s h a k t l = sym (past_front a k s (front_less s h a t (omega arith))) ∙ front_less s h (a + k) t l
-
--- a byte that is not
-pub high_at : (s : List ℕ) (i : ℕ) → 127 < get_or s i 0 → is_seven_bit s ≡ false
-high_at s i h = go (is_seven_bit s) refl
-  where
-    go : (x : Bool) → is_seven_bit s ≡ x → is_seven_bit s ≡ false
-    go true e = let l : get_or s i 0 ≤ 127 = seven_bit_at s e i in absurd (omega (arith, h, l))
-    go false e = e
 
 -- two parts that cover a list
 pub cover : (s : List ℕ) (at b : ℕ) → b ≤ at → (is_seven_bit (take at s) && is_seven_bit (drop b s)) ≡ is_seven_bit s

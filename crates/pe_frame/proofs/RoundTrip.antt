@@ -216,6 +216,7 @@ module _ (s : List ℕ) (f : Fields) (q : read_fields s ≡ granted f) where
 
   -- A chunk that was read is not refused by the writer, and has its bytes again.
   pub read_then_written : write_chunk (chunk_of s f) (length s) ≡ granted s
+  unfolding chunk_len
   read_then_written =
       let room : 9 + length (part 3 f.header_len s) + length (part f.property_at f.property_len s) ≤ length s = omega (arith, header_size, property_size, told.long) in
       write_granted (chunk_of s f) (length s) read_in_range room ∙ ap granted read_bytes_are

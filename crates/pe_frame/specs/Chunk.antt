@@ -4,10 +4,8 @@ use Rattle.std.specs.Prelude.{ℕ, ◌+◌, Bool, ◌||◌, List, leb, eqb, leng
 use Rattle.seven_bit.specs.Parts.{part}
 use Rattle.seven_bit.specs.Reply.{Reply, granted, ◌else◌then◌, and_next}
 use Rattle.seven_bit.specs.SevenBit.{is_seven_bit}
-use Rattle.pe_wire.specs.Errors.{pe_refused}
 use Rattle.pe_wire.specs.Wire.{read_u14}
 use Rattle.pe_frame.specs.declared.frame.ChunkFields.{ChunkFields}
-use Rattle.pe_frame.specs.declared.frame.ChunkRead.{ChunkRead}
 
 -- A chunk: request id, header, chunk count (0 where it is not yet known), chunk number, property.
 pub record Chunk : Type 0 where
@@ -102,7 +100,3 @@ fields_of f = record {
   property_at = f.property_at;
   property_len = f.property_len;
 }
-
-abbrev pub chunk_told : ChunkRead → Reply Fields
-chunk_told (ChunkRead.Value f) = granted (fields_of f)
-chunk_told (ChunkRead.Refused e) = pe_refused e

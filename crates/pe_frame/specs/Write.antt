@@ -6,8 +6,6 @@ use Rattle.seven_bit.specs.Reply.{Reply, granted, ◌else◌then◌, ◌else◌w
 use Rattle.seven_bit.specs.SevenBit.{is_seven_bit, bytes_of}
 use Rattle.midici_core.specs.Header.{Header, bytes_of_header, within28}
 use Rattle.midici_core.specs.Kinds.{carries_chunk}
-use Rattle.pe_wire.specs.Errors.{pe_refused}
-use Rattle.pe_frame.specs.declared.frame.ChunkLen.{ChunkLen}
 use Rattle.pe_frame.specs.Chunk.{Chunk, within_count}
 
 -- The chunk's bytes, and how many there are.
@@ -38,10 +36,6 @@ ask_chunk c next =
     (eqb c.chunk_num 1 || eqb (length c.header) 0) else 8 then
     within_count c.chunk_num c.num_chunks else 8 then
     next
-
-abbrev pub chunk_len_told : ChunkLen → Reply ℕ
-chunk_len_told (ChunkLen.Bytes n) = granted n
-chunk_len_told (ChunkLen.Refused e) = pe_refused e
 
 -- A chunk that has a yes to each of them.
 pub record InRange (c : Chunk) : Type 0 where

@@ -1,17 +1,20 @@
-// PeChunkRef: a chunk that refers to the bytes it was read from.
-ghost use Rattle.std.specs.Prelude.{◌≡◌, length};
-ghost use Rattle.seven_bit.specs.Parts.{part};
-ghost use Rattle.seven_bit.specs.Reply.{and_next, outcome, writing};
-ghost use Rattle.pe_wire.specs.Wire.{encoded_told};
-ghost use Rattle.pe_frame.specs.Chunk.{read_chunk, chunk_of, chunk_from, fields_of};
-ghost use Rattle.pe_frame.specs.ChunkRef.{chunk_in, ref_told, ref_with, read_ref};
-ghost use Rattle.pe_frame.specs.Write.{write_chunk};
+// PeChunkRef: a chunk that refers to its header's and property's bytes, as those that it was read from.
+ghost use Rattle.std.specs.Prelude.{◌≡◌, ◌+◌, ◌≤◌, length};
+ghost use Rattle.seven_bit.specs.Parts.{put};
+ghost use Rattle.seven_bit.specs.Reply.{and_next, granted, outcome, writing};
+ghost use Rattle.pe_wire.specs.Errors.{pe_count, pe_told};
+ghost use Rattle.pe_frame.specs.Chunk.{read_chunk};
+ghost use Rattle.pe_frame.specs.ChunkRef.{chunk_in};
+ghost use Rattle.pe_frame.specs.Write.{ask_chunk, chunk_bytes, chunk_len, write_chunk};
 
-use crate::frame::{ChunkFields, ChunkRead, HEADER_AT, decode_fields, encode};
+use crate::frame::{
+    HEADER_AT, PE_FRAMING_LEN, REQUEST_ID_MAX, decode_fields, is_within_count, put_u14,
+};
 use pe_wire::error::PeError;
-use pe_wire::wire::Encoded;
+use pe_wire::wire::U14_MAX;
+use seven_bit::{all_seven_bit, copy_in};
 
-#[derive(Clone, Copy)]
+#[derive(Clone, Copy, Debug, PartialEq, Eq)]
 pub struct PeChunkRef<'a> {
     pub request_id: u8,
     pub header: &'a [u8],
@@ -21,130 +24,81 @@ pub struct PeChunkRef<'a> {
     pub property: &'a [u8],
 }
 
-#[derive(Clone, Copy)]
-pub enum Decoded {
-    Read,
-    Refused(PeError),
-}
-
-// An enum can't hold a reference: the answer stands beside the chunk, which is empty where it is a refusal.
-#[derive(Clone, Copy)]
-pub struct ChunkRefRead<'a> {
-    pub answer: Decoded,
-    pub chunk: PeChunkRef<'a>,
-}
-
-// The same over numbers.
-#[derive(Clone, Copy)]
-struct FieldsFound {
-    answer: Decoded,
-    fields: ChunkFields,
-}
-
-const NO_FIELDS: ChunkFields = ChunkFields {
-    request_id: 0,
-    header_len: 0,
-    num_chunks: 0,
-    chunk_num: 0,
-    property_at: 0,
-    property_len: 0,
-};
-
-fn find_fields(data: &[u8]) -> FieldsFound
-    ensures { ref_with result.answer (chunk_of «data».now (fields_of result.fields)) ≡ read_ref «data».now }
-{
-    match decode_fields(data) {
-        ChunkRead::Value(fields) => FieldsFound {
-            answer: Decoded::Read,
-            fields,
-        },
-        ChunkRead::Refused(e) => FieldsFound {
-            answer: Decoded::Refused(e),
-            fields: NO_FIELDS,
-        },
-    }
-}
-
-// The len bytes of s from at on, or as many of them as there are.
-fn bytes_at(s: &[u8], at: usize, len: usize) -> &[u8]
-    ensures { result.now ≡ part at len s.now }
-{
-    if s.len() < at {
-        return &s[..0];
-    }
-    let rest = &s[at..];
-    if rest.len() < len {
-        return rest;
-    }
-    &rest[..len]
-}
-
-// The struct is made, of a chunk's bytes and the fields that were read from them.
-fn chunk_of<'a>(data: &'a [u8], fields: ChunkFields) -> PeChunkRef<'a>
-    ensures { chunk_in result ≡ chunk_of «data».now (fields_of fields) }
-{
-    let header = bytes_at(data, HEADER_AT, fields.header_len);
-    let property = bytes_at(data, fields.property_at, fields.property_len);
-    PeChunkRef {
-        request_id: fields.request_id,
-        header,
-        num_chunks: fields.num_chunks,
-        chunk_num: fields.chunk_num,
-        property,
-    }
-}
-
 impl<'a> PeChunkRef<'a> {
-    pub fn decode(data: &'a [u8]) -> ChunkRefRead<'a>
-        ensures { ref_told result ≡ read_ref «data».now }
+    pub fn decode(data: &'a [u8]) -> Result<PeChunkRef<'a>, PeError>
+        ensures { pe_told chunk_in result ≡ read_chunk «data».now }
     {
-        let found = find_fields(data);
-        ChunkRefRead {
-            answer: found.answer,
-            chunk: chunk_of(data, found.fields),
-        }
+        let fields = decode_fields(data)?;
+        Ok(PeChunkRef {
+            request_id: fields.request_id,
+            header: &data[HEADER_AT..HEADER_AT + fields.header_len],
+            num_chunks: fields.num_chunks,
+            chunk_num: fields.chunk_num,
+            property: &data[fields.property_at..fields.property_at + fields.property_len],
+        })
     }
-}
 
-// The writer, at one lifetime for the two slices of the struct.
-fn encode_fields<'a, 'b>(
-    request_id: u8,
-    header: &'a [u8],
-    num_chunks: u16,
-    chunk_num: u16,
-    property: &'a [u8],
-    out: &'b mut [u8],
-) -> Encoded
-    ensures { outcome (encoded_told result) out.new
-        ≡ writing (write_chunk (chunk_from request_id header.now num_chunks chunk_num property.now)
-        (length out.old)) out.old }
-{
-    encode(request_id, header, num_chunks, chunk_num, property, out)
-}
+    // The questions before a chunk is written, except for the room: how long it is, or why it can't be written.
+    #[tactic(auto, unfolding(crate::specs::Write::ask_chunk, crate::specs::Write::chunk_len))]
+    pub(crate) fn questions(&self) -> Result<usize, PeError>
+        ensures { pe_count result
+            ≡ ask_chunk (chunk_in self.now) (granted (chunk_len (chunk_in self.now))) }
+    {
+        if self.request_id > REQUEST_ID_MAX
+            || self.header.len() > U14_MAX as usize
+            || self.property.len() > U14_MAX as usize
+            || self.num_chunks > U14_MAX
+            || self.chunk_num > U14_MAX
+            || !all_seven_bit(self.header)
+            || !all_seven_bit(self.property)
+        {
+            return Err(PeError::BadField);
+        }
+        if self.chunk_num != 1 && !self.header.is_empty() {
+            return Err(PeError::InconsistentChunking);
+        }
+        if !is_within_count(self.chunk_num, self.num_chunks) {
+            return Err(PeError::InconsistentChunking);
+        }
+        Ok(PE_FRAMING_LEN + self.header.len() + self.property.len())
+    }
 
-// The struct is taken apart, and its chunk written.
-pub fn encode_ref<'a, 'b>(chunk: PeChunkRef<'a>, out: &'b mut [u8]) -> Encoded
-    ensures { outcome (encoded_told result) out.new
-        ≡ writing (write_chunk (chunk_in chunk.entry) (length out.old)) out.old }
-{
-    encode_fields(
-        chunk.request_id,
-        chunk.header,
-        chunk.num_chunks,
-        chunk.chunk_num,
-        chunk.property,
-        out,
-    )
+    // The chunk's bytes from place at of out on, which has room for them.
+    pub(crate) fn fill(&self, out: &mut [u8], at: usize)
+        requires { (length self.now.header.now ≤ 16383) × (length self.now.property.now ≤ 16383)
+            × (self.now.num_chunks ≤ 16383) × (self.now.chunk_num ≤ 16383)
+            × (at + (9 + length self.now.header.now + length self.now.property.now) ≤ length out.old) }
+        ensures { out.new ≡ put out.old at (chunk_bytes (chunk_in self.now)) }
+    {
+        out[at] = self.request_id;
+        put_u14(out, at + 1, self.header.len() as u16);
+        copy_in(out, at + HEADER_AT, self.header);
+        let behind = at + HEADER_AT + self.header.len();
+        put_u14(out, behind, self.num_chunks);
+        put_u14(out, behind + 2, self.chunk_num);
+        put_u14(out, behind + 4, self.property.len() as u16);
+        copy_in(out, behind + 6, self.property);
+    }
+
+    // Writes the chunk into out; the bytes past it keep their values.
+    #[tactic(auto, using(crate::proofs::ChunkLaws::writes), unfolding(crate::specs::Write::chunk_len))]
+    pub fn encode(self, out: &mut [u8]) -> Result<usize, PeError>
+        ensures { outcome (pe_count result) out.new
+            ≡ writing (write_chunk (chunk_in self.entry) (length out.old)) out.old }
+    {
+        let need = self.questions()?;
+        if out.len() < need {
+            return Err(PeError::BufferTooSmall);
+        }
+        self.fill(out, 0);
+        Ok(need)
+    }
 }
 
 // Reads a chunk and writes it again: with plain parameters, so that no caller needs to know the struct.
-pub fn rewrite(data: &[u8], out: &mut [u8]) -> Encoded
-    ensures { outcome (encoded_told result) out.new
+pub fn rewrite(data: &[u8], out: &mut [u8]) -> Result<usize, PeError>
+    ensures { outcome (pe_count result) out.new
         ≡ writing (and_next (read_chunk «data».now) (λ c. write_chunk c (length out.old))) out.old }
 {
-    let read = PeChunkRef::decode(data);
-    match read.answer {
-        Decoded::Read => encode_ref(read.chunk, out),
-        Decoded::Refused(e) => Encoded::Refused(e),
-    }
+    PeChunkRef::decode(data)?.encode(out)
 }

@@ -1,16 +1,16 @@
 // A chunk: request id, header length (14 bits), header, chunk count (14), chunk number (14), property length (14), property.
 ghost use Rattle.std.specs.Prelude.{true, false, ◌≡◌, ◌+◌, ◌≤◌, length};
 ghost use Rattle.seven_bit.specs.Parts.{part, put};
-ghost use Rattle.seven_bit.specs.Reply.{granted, outcome, writing};
+ghost use Rattle.seven_bit.specs.Reply.{outcome, writing};
 ghost use Rattle.seven_bit.specs.SevenBit.{is_seven_bit, number_of, bytes_of};
-ghost use Rattle.pe_wire.specs.Errors.{pe_refused};
-ghost use Rattle.pe_wire.specs.Wire.{encoded_told};
-ghost use Rattle.pe_frame.specs.Chunk.{Chunk, within_count, read_fields, chunk_told, chunk_from};
-ghost use Rattle.pe_frame.specs.Write.{ask_chunk, chunk_len_told, chunk_bytes, put_chunk, write_chunk};
+ghost use Rattle.pe_wire.specs.Errors.{pe_count, pe_refused, pe_told};
+ghost use Rattle.pe_frame.specs.Chunk.{within_count, read_fields, fields_of, chunk_from};
+ghost use Rattle.pe_frame.specs.Write.{put_chunk, write_chunk};
 
+use crate::chunk_ref::PeChunkRef;
 use crate::low::{all_low, each_low};
 use pe_wire::error::PeError;
-use pe_wire::wire::{Encoded, U14_MAX, join_u14, write_u14_le7};
+use pe_wire::wire::{U14_MAX, join_u14, write_u14_le7};
 
 // The bytes of a chunk besides its header and property.
 pub const PE_FRAMING_LEN: usize = 9;
@@ -24,7 +24,7 @@ pub const REQUEST_ID_MAX: u8 = 0x7F;
 pub const MAX_HEADER_BYTES: usize = 4096;
 
 // What reading a chunk finds: its header starts at HEADER_AT, its property at property_at.
-#[derive(Clone, Copy)]
+#[derive(Clone, Copy, Debug, PartialEq, Eq)]
 pub struct ChunkFields {
     pub request_id: u8,
     pub header_len: usize,
@@ -32,12 +32,6 @@ pub struct ChunkFields {
     pub chunk_num: u16,
     pub property_at: usize,
     pub property_len: usize,
-}
-
-#[derive(Clone, Copy)]
-pub enum ChunkRead {
-    Value(ChunkFields),
-    Refused(PeError),
 }
 
 // The number in the two bytes from at on.
@@ -49,45 +43,41 @@ fn u14_at(data: &[u8], at: usize) -> u16
 }
 
 // Is a chunk's number within its count, where that is known?
-fn is_within_count(chunk_num: u16, num_chunks: u16) -> bool
+#[tactic(auto, unfolding(crate::specs::Chunk::within_count))]
+pub(crate) fn is_within_count(chunk_num: u16, num_chunks: u16) -> bool
     ensures { result ≡ within_count chunk_num num_chunks }
 {
-    if num_chunks == 0 {
-        return true;
-    }
-    chunk_num <= num_chunks
+    num_chunks == 0 || chunk_num <= num_chunks
 }
 
 // A chunk of at least nine bytes, all of them up to 7F.
-fn decode_low(data: &[u8]) -> ChunkRead
+fn decode_low(data: &[u8]) -> Result<ChunkFields, PeError>
     requires { (9 ≤ length «data».now) × (is_seven_bit «data».now ≡ true) }
-    ensures { chunk_told result ≡ read_fields «data».now }
+    ensures { pe_told fields_of result ≡ read_fields «data».now }
 {
     let nh = u14_at(data, 1) as usize;
     let property_at = PE_FRAMING_LEN + nh;
     if data.len() < property_at {
-        return ChunkRead::Refused(PeError::Truncated);
+        return Err(PeError::Truncated);
     }
     let behind = HEADER_AT + nh;
     let num_chunks = u14_at(data, behind);
     let chunk_num = u14_at(data, behind + 2);
     let nd = u14_at(data, behind + 4) as usize;
     if data.len() < property_at + nd {
-        return ChunkRead::Refused(PeError::Truncated);
+        return Err(PeError::Truncated);
     }
     if property_at + nd < data.len() {
-        return ChunkRead::Refused(PeError::BadField);
+        return Err(PeError::BadField);
     }
     // The header stands in chunk 1 only.
-    if chunk_num != 1 {
-        if nh != 0 {
-            return ChunkRead::Refused(PeError::InconsistentChunking);
-        }
+    if chunk_num != 1 && nh != 0 {
+        return Err(PeError::InconsistentChunking);
     }
     if !is_within_count(chunk_num, num_chunks) {
-        return ChunkRead::Refused(PeError::InconsistentChunking);
+        return Err(PeError::InconsistentChunking);
     }
-    ChunkRead::Value(ChunkFields {
+    Ok(ChunkFields {
         request_id: data[0],
         header_len: nh,
         num_chunks,
@@ -119,105 +109,30 @@ fn high_byte(data: &[u8]) -> PeError
 }
 
 // Reads a chunk. All its bytes are asked at once, since all are up to 7F in a good one; only where one is not, they are asked in their order.
-pub fn decode_fields(data: &[u8]) -> ChunkRead
-    ensures { chunk_told result ≡ read_fields «data».now }
+#[tactic(auto, unfolding(crate::specs::Chunk::read_fields))]
+pub fn decode_fields(data: &[u8]) -> Result<ChunkFields, PeError>
+    ensures { pe_told fields_of result ≡ read_fields «data».now }
 {
     if data.len() < PE_FRAMING_LEN {
-        return ChunkRead::Refused(PeError::Truncated);
+        return Err(PeError::Truncated);
     }
     if !all_low(data) {
-        return ChunkRead::Refused(high_byte(data));
+        return Err(high_byte(data));
     }
     decode_low(data)
 }
 
-// How long a chunk is, or why it can't be written.
-#[derive(Clone, Copy)]
-pub(crate) enum ChunkLen {
-    Bytes(usize),
-    Refused(PeError),
-}
-
-// The questions before a chunk is written, except for the room.
-pub(crate) fn questions(
-    request_id: u8,
-    header: &[u8],
-    num_chunks: u16,
-    chunk_num: u16,
-    property: &[u8],
-) -> ChunkLen
-    ensures { chunk_len_told result
-        ≡ ask_chunk (chunk_from request_id header.now num_chunks chunk_num property.now)
-        (granted (9 + length header.now + length property.now)) }
-{
-    if request_id > REQUEST_ID_MAX {
-        return ChunkLen::Refused(PeError::BadField);
-    }
-    if header.len() > U14_MAX as usize {
-        return ChunkLen::Refused(PeError::BadField);
-    }
-    if property.len() > U14_MAX as usize {
-        return ChunkLen::Refused(PeError::BadField);
-    }
-    if num_chunks > U14_MAX {
-        return ChunkLen::Refused(PeError::BadField);
-    }
-    if chunk_num > U14_MAX {
-        return ChunkLen::Refused(PeError::BadField);
-    }
-    if !seven_bit::all_seven_bit(header) {
-        return ChunkLen::Refused(PeError::BadField);
-    }
-    if !seven_bit::all_seven_bit(property) {
-        return ChunkLen::Refused(PeError::BadField);
-    }
-    if chunk_num != 1 {
-        if header.len() != 0 {
-            return ChunkLen::Refused(PeError::InconsistentChunking);
-        }
-    }
-    if !is_within_count(chunk_num, num_chunks) {
-        return ChunkLen::Refused(PeError::InconsistentChunking);
-    }
-    ChunkLen::Bytes(PE_FRAMING_LEN + header.len() + property.len())
-}
-
 // A field of 14 bits, at a place that has room for it.
-fn put_u14(out: &mut [u8], at: usize, v: u16)
+pub(crate) fn put_u14(out: &mut [u8], at: usize, v: u16)
     requires { (at + 2 ≤ length out.old) × (v ≤ 16383) }
     ensures { out.new ≡ put out.old at (bytes_of 2 v) }
 {
-    write_u14_le7(v, &mut out[at..]);
-}
-
-// The chunk's bytes from place at of out on, which has room for them.
-pub(crate) fn fill(
-    request_id: u8,
-    header: &[u8],
-    num_chunks: u16,
-    chunk_num: u16,
-    property: &[u8],
-    out: &mut [u8],
-    at: usize,
-)
-    requires { (length header.now ≤ 16383) × (length property.now ≤ 16383) × (num_chunks ≤ 16383) × (chunk_num ≤ 16383)
-        × (at + (9 + length header.now + length property.now) ≤ length out.old) }
-    ensures { out.new
-        ≡ put out.old at
-        (chunk_bytes (chunk_from request_id header.now num_chunks chunk_num property.now)) }
-{
-    out[at] = request_id;
-    put_u14(out, at + 1, header.len() as u16);
-    seven_bit::copy_in(out, at + HEADER_AT, header);
-    let behind = at + HEADER_AT + header.len();
-    put_u14(out, behind, num_chunks);
-    put_u14(out, behind + 2, chunk_num);
-    put_u14(out, behind + 4, property.len() as u16);
-    seven_bit::copy_in(out, behind + 6, property);
+    write_u14_le7(v, &mut out[at..]).unwrap();
 }
 
 // Stores a chunk at a place of out, where its numbers have 14 bits and it fits, and else leaves out as it is. Whether its bytes are up to 7F
 // and its numbers go together is not asked: for a caller that has asked it of a whole list.
+#[tactic(auto, using(crate::proofs::ChunkLaws::stores), unfolding(crate::specs::Write::put_chunk, crate::specs::Write::chunk_len))]
 pub fn put_chunk(
     request_id: u8,
     header: &[u8],
@@ -230,25 +145,23 @@ pub fn put_chunk(
     ensures { out.new
         ≡ put_chunk (chunk_from request_id header.now num_chunks chunk_num property.now) out.old at }
 {
-    if header.len() > U14_MAX as usize {
+    if header.len() > U14_MAX as usize
+        || property.len() > U14_MAX as usize
+        || num_chunks > U14_MAX
+        || chunk_num > U14_MAX
+        || out.len() < at
+        || out.len() - at < PE_FRAMING_LEN + header.len() + property.len()
+    {
         return;
     }
-    if property.len() > U14_MAX as usize {
-        return;
-    }
-    if num_chunks > U14_MAX {
-        return;
-    }
-    if chunk_num > U14_MAX {
-        return;
-    }
-    if out.len() < at {
-        return;
-    }
-    if out.len() - at < PE_FRAMING_LEN + header.len() + property.len() {
-        return;
-    }
-    fill(request_id, header, num_chunks, chunk_num, property, out, at);
+    let chunk = PeChunkRef {
+        request_id,
+        header,
+        num_chunks,
+        chunk_num,
+        property,
+    };
+    chunk.fill(out, at);
 }
 
 // Writes a chunk into out; the bytes past it keep their values.
@@ -259,18 +172,17 @@ pub fn encode(
     chunk_num: u16,
     property: &[u8],
     out: &mut [u8],
-) -> Encoded
-    ensures { outcome (encoded_told result) out.new
+) -> Result<usize, PeError>
+    ensures { outcome (pe_count result) out.new
         ≡ writing (write_chunk (chunk_from request_id header.now num_chunks chunk_num property.now)
         (length out.old)) out.old }
 {
-    let need = match questions(request_id, header, num_chunks, chunk_num, property) {
-        ChunkLen::Bytes(n) => n,
-        ChunkLen::Refused(e) => return Encoded::Refused(e),
+    let chunk = PeChunkRef {
+        request_id,
+        header,
+        num_chunks,
+        chunk_num,
+        property,
     };
-    if out.len() < need {
-        return Encoded::Refused(PeError::BufferTooSmall);
-    }
-    fill(request_id, header, num_chunks, chunk_num, property, out, 0);
-    Encoded::Wrote(need)
+    chunk.encode(out)
 }

@@ -21,9 +21,9 @@ use Rattle.flat_json.proofs.ParseTold.{parse_law}
 use Rattle.flat_json.proofs.MatchesTree.{matches_tree, parsed_law}
 use Rattle.flat_json.proofs.TextLaws.{entry_text_law, entry_long, entries_long}
 use Rattle.pe_header.specs.declared.members.Walk.{Walk}
-use Rattle.pe_header.specs.Find.{Lookup, absent, list, repeated, all_small, find_named, find_in, find_parsed, find_value}
+use Rattle.pe_header.specs.Find.{Lookup, absent, lookup_of, list, repeated, all_small, find_named, find_in, find_parsed, find_value}
 use Rattle.pe_header.specs.Names.{NamesAt}
-use Rattle.pe_header.specs.Members.{IsEnd, name_places, found_or, AllRead, TreeRead}
+use Rattle.pe_header.specs.Members.{IsEnd, name_places, AllRead, TreeRead}
 use Rattle.pe_header.proofs.ValueLaws.{ahead}
 use Rattle.pe_header.proofs.MemberLaws.{name_there, a_name, what_follows}
 
@@ -145,6 +145,6 @@ module _ (text name names : List ℕ) (walk : Walk) (r : TreeRead text name name
   read_twice s q = told true true s q
 
   pub read_once : walk.small ≡ true → false ≡ repeated (list r.tree.inside) → find_value text name
-      ≡ granted (cond (is_seven_bit name) (found_or walk.found absent) absent)
+      ≡ granted (cond (is_seven_bit name) (lookup_of walk.found) absent)
   unfolding find_named
   read_once s q = told true false s q ∙ ap (λ (x : Lookup). granted (cond (is_seven_bit name) x absent)) r.all_read.looked

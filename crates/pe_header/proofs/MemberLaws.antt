@@ -3,10 +3,10 @@
 use Prim.Native.Nat.{ℕ, suc, ◌+◌, ◌-◌, ◌≤◌, ◌<◌}
 use mathlib.Core.Bool.{Bool, true, false, cond, ◌&&◌, and-true, true≢false}
 use mathlib.Core.List.{List, [], ◌∷◌, ◌++◌, append-nil, append_assoc}
-use mathlib.Core.Logic.{inl, inr}
+use mathlib.Core.Logic.{◌⊎◌, inl, inr, ⊎_elim}
 use mathlib.Core.Path.{◌≡◌, refl, sym, ap, ◌∙◌, subst}
 use native.Mathlib.Omega.{arith}
-use borrow.Author.Tests.{eqb-true, eq-eqb, ne_eqb}
+use borrow.Author.Tests.{eqb-true, eq-eqb}
 use lib.Dec.{eqb, leb}
 use lib.ListN.{length, drop, take, get_or, set, length-append, length-drop}
 use lib.Seq.{drop_at, take-suc, take-set-le, get_or-set_same, lt-length-set}
@@ -19,13 +19,15 @@ use Rattle.flat_json.proofs.WalkLaws.{reached_stop, reached_within, reached_run}
 use Rattle.flat_json.proofs.ParseText.{number_digits}
 use Rattle.flat_json.proofs.TextLaws.{pieces_text_law, value_text_law, lead_text_law, lead_length, entry_length}
 use Rattle.flat_json.proofs.TreeWalk.{reach_is, reach_ws}
+use Rattle.std.specs.Prelude.{Option, Some, None, is_some}
+use Rattle.pe_header.specs.declared.Found.{Found}
 use Rattle.pe_header.specs.declared.Kind.{Kind}
 use Rattle.pe_header.specs.declared.members.Value.{Value as ValueRead}
 use Rattle.pe_header.specs.declared.members.Walk.{Walk}
-use Rattle.pe_header.specs.Find.{units, same_units, is_named, kind_of, value_bytes, quotes, value_of, found_at, look_up, list, decimal, small, all_small}
+use Rattle.pe_header.specs.Find.{units, same_units, is_named, kind_of, value_bytes, quotes, Lookup, absent, value_of, lookup_of, found_at, look_up, list, decimal, small, all_small}
 use Rattle.pe_header.specs.Names.{NameAt}
-use Rattle.pe_header.specs.Members.{name_text, value_from, IsEnd, kind_at, ReadRight, Ahead, name_places, found_or, SoFar, AllRead}
-use Rattle.pe_header.proofs.ValueLaws.{ahead, quoted}
+use Rattle.pe_header.specs.Members.{name_text, value_from, IsEnd, kind_at, found_of, first_of, ReadRight, Ahead, name_places, found_or, SoFar, AllRead}
+use Rattle.pe_header.proofs.ValueLaws.{ahead}
 
 -- a reading up to a name's opening quotation mark, from a state in which a name may come
 module _ (table : List ℕ) (right : RightTable table) where
@@ -172,7 +174,6 @@ pub record Member (text name : List ℕ) (walk : Walk) (from : ℕ) (es : List E
   pub looked : look_up name from es
       ≡ found_or walk.found (cond (is_named name entry) (found_at (here + length (lead_text entry [])) entry.value)
       (look_up name (here + length (entry_text entry []) + 1) rest))
-  pub lies : (walk.found.state ≡ 0 → ⊥) → walk.found.place ≤ walk.found.end
 
 pub in_member : (text name : List ℕ) (walk : Walk) (from : ℕ) (es : List Entry) (names : List ℕ) → walk.at.place < length text
     → SoFar text name from es names walk → Member text name walk from es names
@@ -198,7 +199,6 @@ in_member text name walk from es names h s = go s.rest s.ahead s.count s.numbers
           numbers = n;
           noted = w;
           looked = l;
-          lies = s.lies;
         }
 
 -- what is answered for a value that was read right
@@ -211,6 +211,12 @@ found_right table text f v r a =
     ∙ ap (λ (n : ℕ). value_of (kind_of v) r.place n) (let z : r.end - r.place ≡ length (value_bytes v) = omega arith in z)
     ∙ ap (λ (n : ℕ). value_of (kind_of v) n (length (value_bytes v))) a.place
 
+-- a flag says of a value that it is no number above 65,535
+abbrev pub Fits : List ℕ → ValueRead → Bool → Type 0
+Fits text v fit =
+    ((v.state ≡ 16 → ⊥) → fit ≡ true)
+    × (v.state ≡ 16 → (ds r : List ℕ) → all is_digit ds ≡ true → drop v.place text ≡ ds ++ r → v.end ≡ v.place + length ds → fit ≡ leb (decimal 0 ds) 65535)
+
 -- one member more
 module _ (table : List ℕ) (right : RightTable table) (text name : List ℕ) (walk : Walk) (from : ℕ) (es : List Entry) (names : List ℕ)
     (m : Member text name walk from es names) where
@@ -221,47 +227,43 @@ module _ (table : List ℕ) (right : RightTable table) (text name : List ℕ) (w
   onward = m.here + length (entry_text m.entry []) + 1
 
   -- the first value of the name so far
-  found_so_far : (v found : ValueRead) → ReadRight table text value_at m.entry.value v → ((walk.found.state ≡ 0 → ⊥) → found ≡ walk.found)
-      → (walk.found.state ≡ 0 → found ≡ cond (is_named name m.entry) v walk.found)
-      → (look_up name from es ≡ found_or found (look_up name onward m.rest)) × ((found.state ≡ 0 → ⊥) → found.place ≤ found.end)
-  unfolding found_or value_from
-  found_so_far v found r keep take-it = go (eqb walk.found.state 0) refl
+  found_so_far : (v : ValueRead) (found : Option Found) → ReadRight table text value_at m.entry.value v
+      → found ≡ first_of walk.found (cond (is_named name m.entry) (Some (found_of v)) None)
+      → look_up name from es ≡ found_or found (look_up name onward m.rest)
+  unfolding found_or first_of value_from
+  found_so_far v found r e =
+      m.looked ∙ go walk.found (is_named name m.entry) ∙ ap (λ (o : Option Found). found_or o later) (sym e)
     where
-      Told : ValueRead → Type 0
-      Told x = (look_up name from es ≡ found_or x (look_up name onward m.rest)) × ((x.state ≡ 0 → ⊥) → x.place ≤ x.end)
+      later : Lookup
+      later = look_up name onward m.rest
 
-      here : walk.found.state ≡ 0 → (t : Bool) → is_named name m.entry ≡ t → Told (cond t v walk.found)
-      here z true n = (
-        m.looked ∙ rw (eq-eqb walk.found.state 0 z, n, ne_eqb v.state 0 r.stated)
-            (sym (found_right table text value_at m.entry.value v r ∙ ap (λ (x : ℕ). found_at x m.entry.value)
-            (let l = lead_length m.entry in let y : value_at ≡ m.here + length (lead_text m.entry []) = omega arith in y))),
-        λ h. (let e = r.end in omega arith),
-      )
-      here z false n = (m.looked ∙ rw (eq-eqb walk.found.state 0 z, n) refl, m.lies)
+      here : Lookup
+      here = found_at (m.here + length (lead_text m.entry [])) m.entry.value
 
-      go : (t : Bool) → eqb walk.found.state 0 ≡ t → Told found
-      go true q =
-          let z : walk.found.state ≡ 0 = eqb-true walk.found.state 0 q in
-          subst Told (sym (take-it z)) (here z (is_named name m.entry) refl)
-      go false q =
-          let n : walk.found.state ≡ 0 → ⊥ = λ e. true≢false (sym (eq-eqb walk.found.state 0 e) ∙ q) in
-          subst Told (sym (keep n)) (m.looked ∙ rw q refl, m.lies)
+      right_here : here ≡ value_of (kind_at v.state) v.place (v.end - v.place)
+      right_here =
+          let l = lead_length m.entry in
+          let y : value_at ≡ m.here + length (lead_text m.entry []) = omega arith in
+          sym (found_right table text value_at m.entry.value v r ∙ ap (λ (x : ℕ). found_at x m.entry.value) y)
 
-  pub next_so_far : (v found : ValueRead) (at : Spot) (fit : Bool) → ReadRight table text value_at m.entry.value v
+      go : (o : Option Found) (t : Bool) → found_or o (cond t here later) ≡ found_or (first_of o (cond t (Some (found_of v)) None)) later
+      go (Some f) t = refl
+      go None true = right_here
+      go None false = refl
+
+  pub next_so_far : (v : ValueRead) (found : Option Found) (at : Spot) (fit : Bool) → ReadRight table text value_at m.entry.value v
       → at ≡ reached table text v.at 2 → fit ≡ (walk.small && small m.entry.value) → (after : List ℕ)
       → (walk.names < length names → after ≡ set names walk.names walk.at.place)
-      → length es ≤ length names → ((walk.found.state ≡ 0 → ⊥) → found ≡ walk.found)
-      → (walk.found.state ≡ 0 → found ≡ cond (is_named name m.entry) v walk.found)
+      → length es ≤ length names → found ≡ first_of walk.found (cond (is_named name m.entry) (Some (found_of v)) None)
       → SoFar text name from es after (record { at = at; names = walk.names + 1; small = fit; found = found })
   unfolding reached value_from
-  next_so_far v found at fit r e f after a room keep take-it =
+  next_so_far v found at fit r e f after a room first =
       let follows = entries_text m.rest (0x7D ∷ m.tail) in
       let q = value_at + length (value_text m.entry.value []) in
       let w : drop q text ≡ m.entry.after ++ follows = behind_value text value_at m.entry follows
       (value_there text m.here m.entry follows m.there) in
       let count = m.count in
       let k : walk.names < length names = omega arith in
-      let told = found_so_far v found r keep take-it in
       record {
         here = onward;
         rest = m.rest;
@@ -276,41 +278,37 @@ module _ (table : List ℕ) (right : RightTable table) (text name : List ℕ) (w
             ∙ append_assoc (take walk.names names) (walk.at.place ∷ []) (name_places onward m.rest)
             ∙ ap (λ (x : ℕ). take walk.names names ++ x ∷ name_places onward m.rest) (ap (λ (x : Spot). x.place) m.at)
             ∙ m.noted;
-        looked = told.0;
-        lies = told.1;
+        looked = found_so_far v found r first;
       }
 
   -- whether the numbers stay small with this value
-  value_fits : (v : ValueRead) (fit : Bool) → ReadRight table text value_at m.entry.value v → ((v.state ≡ 16 → ⊥) → fit ≡ walk.small)
-      → (v.state ≡ 16 → (ds r : List ℕ) → all is_digit ds ≡ true → drop v.place text ≡ ds ++ r → v.end ≡ v.place + length ds → fit
-      ≡ (walk.small && leb (decimal 0 ds) 65535))
-      → fit ≡ (walk.small && small m.entry.value)
+  value_fits : (v : ValueRead) (fit : Bool) → ReadRight table text value_at m.entry.value v → Fits text v fit → fit ≡ small m.entry.value
   unfolding small quotes value_bytes value_text good_value
-  value_fits v fit r other numeric = go (eqb v.state 16) refl
+  value_fits v fit r told = go (eqb v.state 16) refl
     where
       after : List ℕ
       after = m.entry.after ++ entries_text m.rest (0x7D ∷ m.tail)
 
-      digits : (ds : List ℕ) → v.state ≡ 16 → m.entry.value ≡ number ds → fit ≡ (walk.small && small (number ds))
+      digits : (ds : List ℕ) → v.state ≡ 16 → m.entry.value ≡ number ds → fit ≡ small (number ds)
       digits ds q e =
           let p : v.place ≡ value_at = r.place ∙ ap (λ (x : Value). value_at + quotes x) e ∙ (let z : value_at + 0 ≡ value_at = omega arith in z) in
           let w : drop value_at text ≡ value_text m.entry.value after = value_there text m.here m.entry
           (entries_text m.rest (0x7D ∷ m.tail)) m.there in
-          numeric q ds after (number_digits ds (subst (λ (x : Value). good_value x ≡ true) e m.good.value))
+          told.1 q ds after (number_digits ds (subst (λ (x : Value). good_value x ≡ true) e m.good.value))
           (ap (λ (x : ℕ). drop x text) p ∙ w ∙ ap (λ (x : Value). value_text x after) e)
           (r.end ∙ ap (λ (x : Value). v.place + length (value_bytes x)) e)
 
-      go : (t : Bool) → eqb v.state 16 ≡ t → fit ≡ (walk.small && small m.entry.value)
+      go : (t : Bool) → eqb v.state 16 ≡ t → fit ≡ small m.entry.value
       go true q =
           let n = r.numeric (eqb-true v.state 16 q) in
-          digits n.0 (eqb-true v.state 16 q) n.1 ∙ ap (λ (x : Value). walk.small && small x) (sym n.1)
+          digits n.0 (eqb-true v.state 16 q) n.1 ∙ ap small (sym n.1)
       go false q =
           let n : v.state ≡ 16 → ⊥ = λ e. true≢false (sym (eq-eqb v.state 16 e) ∙ q) in
-          other n ∙ sym (and-true walk.small) ∙ ap (λ (b : Bool). walk.small && b) (sym (r.other n))
+          told.0 n ∙ sym (r.other n)
 
 -- what `next_member` ensures
-module _ (table : List ℕ) (right : RightTable table) (text name : List ℕ) (walk : Walk) (names after : List ℕ) (v found : ValueRead) (at : Spot)
-    (fit : Bool) where
+module _ (table : List ℕ) (right : RightTable table) (text name : List ℕ) (walk : Walk) (names after : List ℕ) (v : ValueRead) (found : Option Found) (at : Spot)
+    (small_so_far : Bool) where
   pub next_told : walk.at.place < length text → walk.names ≤ walk.at.place
       → ((run table walk.at.state (drop walk.at.place text) ≡ run table v.at.state (drop v.at.place text))
       × (((v.at.place ≤ length text) × (v.end ≤ v.at.place))
@@ -318,16 +316,13 @@ module _ (table : List ℕ) (right : RightTable table) (text name : List ℕ) (w
       × ((e : Entry) (c : ℕ) (rest : List ℕ) → GoodEntry e → IsEnd c → walk.at.state ≡ 2 → drop walk.at.place text ≡ name_text e (c ∷ rest)
       → ReadRight table text (value_from walk.at.place e) e.value v))))
       → at ≡ reached table text v.at 2
-      → (((v.state ≡ 16 → ⊥) → fit ≡ walk.small)
-      × (v.state ≡ 16 → (ds r : List ℕ) → all is_digit ds ≡ true → drop v.place text ≡ ds ++ r → v.end ≡ v.place + length ds → fit
-      ≡ (walk.small && leb (decimal 0 ds) 65535)))
+      → ((walk.small ≡ false) × (small_so_far ≡ false)) ⊎ ((walk.small ≡ true) × Fits text v small_so_far)
       → (walk.names < length names → after ≡ set names walk.names walk.at.place)
-      → (((walk.found.state ≡ 0 → ⊥) → found ≡ walk.found)
-      × (walk.found.state ≡ 0 → (ps : List Piece) → NameAt text walk.at.place ps → found ≡ cond (same_units (units ps) name) v walk.found))
+      → ((ps : List Piece) → NameAt text walk.at.place ps → found ≡ first_of walk.found (cond (same_units (units ps) name) (Some (found_of v)) None))
       → ((walk.at.place < at.place) × (at.place ≤ length text) × (walk.names + 1 ≤ at.place))
       × ((run table walk.at.state (drop walk.at.place text) ≡ run table at.state (drop at.place text))
       × ((from : ℕ) (es : List Entry) → length es ≤ length names → SoFar text name from es names walk
-      → SoFar text name from es after (record { at = at; names = walk.names + 1; small = fit; found = found })))
+      → SoFar text name from es after (record { at = at; names = walk.names + 1; small = small_so_far; found = found })))
   unfolding is_named
   next_told h k o e small-told a found-told =
       let b : (v.at.place ≤ at.place) × (at.place ≤ length text) = rw e (reached_within table text v.at 2 o.1.0.0) in
@@ -341,7 +336,7 @@ module _ (table : List ℕ) (right : RightTable table) (text name : List ℕ) (w
       )
     where
       step : (from : ℕ) (es : List Entry) → length es ≤ length names → Member text name walk from es names
-          → SoFar text name from es after (record { at = at; names = walk.names + 1; small = fit; found = found })
+          → SoFar text name from es after (record { at = at; names = walk.names + 1; small = small_so_far; found = found })
       step from es room m =
           let n = what_follows m.rest m.tail in
           let p : walk.at.place ≡ m.here + length m.entry.before + 1 = ap (λ (z : Spot). z.place) m.at in
@@ -353,14 +348,34 @@ module _ (table : List ℕ) (right : RightTable table) (text name : List ℕ) (w
           subst (λ (z : ℕ). ReadRight table text (value_from z m.entry) m.entry.value v) p
           (o.1.1.1 m.entry n.0 n.1 m.good n.2 (ap (λ (z : Spot). z.state) m.at) w)
           in
-          next_so_far table right text name walk from es names m v found at fit r e
-          (value_fits table right text name walk from es names m v fit r small-told.0 small-told.1) after a room
-          found-told.0 (λ z. found-told.1 z m.entry.name (a_name text walk.at.place m.entry (n.0 ∷ n.1) m.good w))
+          next_so_far table right text name walk from es names m v found at small_so_far r e
+          (⊎_elim
+          (λ f. f.1 ∙ ap (λ (b : Bool). b && small m.entry.value) (sym f.0))
+          (λ t. value_fits table right text name walk from es names m v small_so_far r t.1 ∙ ap (λ (b : Bool). b && small m.entry.value) (sym t.0))
+          small-told)
+          after a room
+          (found-told m.entry.name (a_name text walk.at.place m.entry (n.0 ∷ n.1) m.good w))
+
+-- what was found first
+pub first_now : (o now : Option Found) → is_some o ≡ false → first_of o now ≡ now
+unfolding first_of
+first_now (Some f) now e = absurd (true≢false e)
+first_now None now e = refl
+
+pub first_none : (o : Option Found) → o ≡ first_of o None
+unfolding first_of
+first_none (Some f) = refl
+first_none None = refl
+
+pub first_before : (o now : Option Found) → is_some o ≡ true → first_of o now ≡ o
+unfolding first_of
+first_before (Some f) now e = refl
+first_before None now e = absurd (true≢false (sym e))
 
 -- before the first member, and behind the last
 pub started : (table : List ℕ) → RightTable table → (text name names : List ℕ) (t : Tree) → Good t → tree_text t ≡ text → (at : Spot) → at
     ≡ reached table text (spot 0 0) 2
-    → SoFar text name (length t.before + 1) (list t.inside) names (record { at = at; names = 0; small = true; found = quoted 0 0 0 (spot 0 0) })
+    → SoFar text name (length t.before + 1) (list t.inside) names (record { at = at; names = 0; small = true; found = None })
 unfolding found_or
 started table right text name names t g e at q =
     record {
@@ -371,8 +386,13 @@ started table right text name names t g e at q =
       numbers = refl;
       noted = refl;
       looked = refl;
-      lies = λ n. absurd (n refl);
     }
+
+-- what was found, where nothing is left to be looked at
+alone : (o : Option Found) → found_or o absent ≡ lookup_of o
+unfolding found_or
+alone (Some f) = refl
+alone None = refl
 
 pub finished : (text name : List ℕ) (from : ℕ) (es : List Entry) (names : List ℕ) (walk : Walk) → length text ≤ walk.at.place
     → SoFar text name from es names walk → AllRead name from es names walk
@@ -388,8 +408,7 @@ finished text name from es names walk h s = go s.rest s.ahead s.count s.numbers 
           numbers = sym (n ∙ and-true walk.small);
           noted = sym (append-nil (take walk.names names))
               ∙ w;
-          looked = l;
-          lies = s.lies;
+          looked = l ∙ alone walk.found;
         }
     go (e ∷ rest) a c n w l =
         let p : walk.at.place ≡ s.here + length e.before + 1 = ap (λ (z : Spot). z.place) a.0 in

@@ -19,8 +19,10 @@ use Rattle.flat_json.proofs.Branches.{nil_cons, heads_same, tails_same, and_left
 use Rattle.flat_json.proofs.Moves.{leads_law, name_moves, is_set}
 use Rattle.flat_json.proofs.Sets.{low_set, low_set_law}
 use Rattle.flat_json.proofs.StateLaws.{all_below, below_at}
+use Rattle.std.specs.Prelude.{Option, Some, None}
+use Rattle.pe_header.specs.declared.names.Unit.{Unit as UnitRead}
 use Rattle.pe_header.specs.Find.{short_unit, hex_value, unit}
-use Rattle.pe_header.specs.Names.{NameAt, PairAt, EscapeAt, UnitAt}
+use Rattle.pe_header.specs.Names.{NameAt, PairAt, EscapeAt, UnitAt, First}
 
 -- the text from a place on, read further
 pub past : (l : List ℕ) (n k : ℕ) {w : List ℕ} → drop n l ≡ w → drop (n + k) l ≡ drop k w
@@ -97,11 +99,11 @@ no_plain : (b : ℕ) {w rest : List ℕ} → is_unescaped b ≡ true → 0x5C �
 unfolding is_unescaped
 no_plain b h e = true≢false (sym h ∙ ap is_unescaped (sym (heads_same e)))
 
-pub none_left : (text : List ℕ) (at : ℕ) (u next : ℕ) → length text ≤ at → EscapeAt text at u next
+pub none_left : (text : List ℕ) (at : ℕ) (o : Option UnitRead) → length text ≤ at → EscapeAt text at o
 unfolding good_piece piece_text
-none_left text at u next l (plain b) rest g e = absurd (no_plain b g e)
-none_left text at u next l (short c) rest g e = absurd (nil_cons (sym (drop_of_length-le text l) ∙ tails_same e))
-none_left text at u next l (unicode a b c d) rest g e = absurd (nil_cons (sym (drop_of_length-le text l) ∙ tails_same e))
+none_left text at o l (plain b) rest g e = absurd (no_plain b g e)
+none_left text at o l (short c) rest g e = absurd (nil_cons (sym (drop_of_length-le text l) ∙ tails_same e))
+none_left text at o l (unicode a b c d) rest g e = absurd (nil_cons (sym (drop_of_length-le text l) ∙ tails_same e))
 
 -- four digits, and what stands behind a reverse solidus before them
 record Long (text : List ℕ) (at : ℕ) (p : Piece) (rest : List ℕ) : Type 0 where
@@ -118,11 +120,11 @@ record Long (text : List ℕ) (at : ℕ) (p : Piece) (rest : List ℕ) : Type 0 
 
 module _ (table : List ℕ) (right : RightTable table) (text : List ℕ) (at : ℕ) where
   -- an escape of one letter
-  pub short_there : (u : ℕ) → u < 256 → u ≡ short_unit (get_or text at 0) → next table 3 (get_or text at 0) ≡ 2 → EscapeAt text at u (at + 1)
+  pub short_there : (u : UnitRead) → u.unit ≡ short_unit (get_or text at 0) → u.next ≡ at + 1 → next table 3 (get_or text at 0) ≡ 2 → EscapeAt text at (Some u)
   unfolding good_piece piece_text unit
-  short_there u l e m (plain b) rest g h = absurd (no_plain b g h)
-  short_there u l e m (short c) rest g h = let t = tails_same h in (e ∙ ap short_unit (head_is text at t), omega arith, past text at 1 t)
-  short_there u l e m (unicode a b c d) rest g h =
+  short_there u e f m (plain b) rest g h = absurd (no_plain b g h)
+  short_there u e f m (short c) rest g h = let t = tails_same h in (u, refl, e ∙ ap short_unit (head_is text at t), rw f (past text at 1 t))
+  short_there u e f m (unicode a b c d) rest g h =
       let z : ◌≡◌ {A = ℕ} 4 2 = sym (long_next table right) ∙ ap (next table 3) (sym (head_is text at (tails_same h))) ∙ m in absurd (omega arith)
 
   long_form : (next table 3 (get_or text at 0) ≡ 2 → ⊥) → (p : Piece) (rest : List ℕ)
@@ -147,13 +149,13 @@ module _ (table : List ℕ) (right : RightTable table) (text : List ℕ) (at : �
       }
 
   -- one of four digits, for which there is room
-  pub no_room : (next table 3 (get_or text at 0) ≡ 2 → ⊥) → length text - at < 5 → (u n : ℕ) → EscapeAt text at u n
-  no_room n l u m p rest g h = let e = length_left text at (long_form n p rest g h).there in absurd (omega arith)
+  pub no_room : (next table 3 (get_or text at 0) ≡ 2 → ⊥) → length text - at < 5 → (o : Option UnitRead) → EscapeAt text at o
+  no_room n l o p rest g h = let e = length_left text at (long_form n p rest g h).there in absurd (omega arith)
 
   pub long_there : (high low : ℕ) → (next table 3 (get_or text at 0) ≡ 2 → ⊥) → PairAt text (at + 1) high → PairAt text (at + 3) low
-      → EscapeAt text at (high * 256 + low) (at + 5)
+      → (u : UnitRead) → u.unit ≡ high * 256 + low → u.next ≡ at + 5 → EscapeAt text at (Some u)
   unfolding unit
-  long_there high low n x y p rest g h =
+  long_there high low n x y u eu en p rest g h =
       let f = long_form n p rest g h in
       let ex : high ≡ hex_value f.a * 16 + hex_value f.b = x f.a f.b (f.c ∷ f.d ∷ rest) f.hex_a f.hex_b (past text at 1 f.there) in
       let ey : low ≡ hex_value f.c * 16 + hex_value f.d = y f.c f.d rest f.hex_c f.hex_d (past text at 3 f.there) in
@@ -162,7 +164,7 @@ module _ (table : List ℕ) (right : RightTable table) (text : List ℕ) (at : �
       let lc : hex_value f.c < 16 = hex_below f.c f.hex_c in
       let ld : hex_value f.d < 16 = hex_below f.d f.hex_d in
       let e : high * 256 + low ≡ ((hex_value f.a * 16 + hex_value f.b) * 16 + hex_value f.c) * 16 + hex_value f.d = omega arith in
-      (e ∙ ap unit f.is_piece, omega arith, past text at 5 f.there)
+      (u, refl, eu ∙ e ∙ ap unit f.is_piece, rw en (past text at 5 f.there))
 
 -- the state that a name's first byte leads to
 unfoldable pub first_state : List Piece → ℕ
@@ -180,36 +182,45 @@ module _ (table : List ℕ) (right : RightTable table) (text : List ℕ) (at : �
   first_state_law (short c ∷ ps) m = ap (next table 2) (head_is text at m.1.1) ∙ escape_next table right
   first_state_law (unicode a b c d ∷ ps) m = ap (next table 2) (head_is text at m.1.1) ∙ escape_next table right
 
+-- no name stands at the text's end
+name_inside : (text : List ℕ) (at : ℕ) (ps : List Piece) → NameAt text at ps → at < length text
+unfolding pieces_text piece_text
+name_inside text at [] m = let e = length_left text at m.1.1 in omega arith
+name_inside text at (plain b ∷ ps) m = let e = length_left text at m.1.1 in omega arith
+name_inside text at (short c ∷ ps) m = let e = length_left text at m.1.1 in omega arith
+name_inside text at (unicode a b c d ∷ ps) m = let e = length_left text at m.1.1 in omega arith
+
 -- the first unit by that state
 module _ (text : List ℕ) (at : ℕ) where
-  pub unit_plain : (ps : List Piece) → NameAt text at ps → first_state ps ≡ 2 → UnitAt text ps (get_or text at 0) (at + 1)
-  unfolding first_state pieces_text piece_text good_pieces good_piece unit UnitAt is_unescaped low_set unescaped
-  unit_plain [] m s = absurd (omega arith)
-  unit_plain (plain b ∷ ps) m s =
-      let e : get_or text at 0 ≡ b = head_is text at m.1.1 in
-      let l : b < 128 = low_set_law unescaped b refl (and_left (is_unescaped b) (good_pieces ps) m.0) in
-      (e, omega arith, (and_right (is_unescaped b) (good_pieces ps) m.0, (m.1.0, past text at 1 m.1.1)))
-  unit_plain (short c ∷ ps) m s = absurd (omega arith)
-  unit_plain (unicode a b c d ∷ ps) m s = absurd (omega arith)
+  pub unit_past : length text ≤ at → First text at None
+  unit_past h ps m = absurd (let k = name_inside text at ps m in omega arith)
 
-  unit_piece : (u next : ℕ) → EscapeAt text (at + 1) u next → (p : Piece) (w : List ℕ) (ps : List Piece) (m : NameAt text at (p ∷ ps))
-      → drop at text ≡ 0x5C ∷ w → UnitAt text (p ∷ ps) u next
+  pub unit_plain : (ps : List Piece) → NameAt text at ps → first_state ps ≡ 2 → (u : UnitRead) → u.unit ≡ get_or text at 0 → u.next ≡ at + 1 → UnitAt text ps (Some u)
+  unfolding first_state pieces_text piece_text good_pieces good_piece unit UnitAt is_unescaped
+  unit_plain [] m s u e f = absurd (omega arith)
+  unit_plain (plain b ∷ ps) m s u e f =
+      (u, refl, e ∙ head_is text at m.1.1, (and_right (is_unescaped b) (good_pieces ps) m.0, (m.1.0, rw f (past text at 1 m.1.1))))
+  unit_plain (short c ∷ ps) m s u e f = absurd (omega arith)
+  unit_plain (unicode a b c d ∷ ps) m s u e f = absurd (omega arith)
+
+  unit_piece : (o : Option UnitRead) → EscapeAt text (at + 1) o → (p : Piece) (w : List ℕ) (ps : List Piece) (m : NameAt text at (p ∷ ps))
+      → drop at text ≡ 0x5C ∷ w → UnitAt text (p ∷ ps) o
   unfolding pieces_text good_pieces UnitAt
-  unit_piece u next h p w ps m e =
+  unit_piece o h p w ps m e =
       let r = h p (pieces_text ps (0x22 ∷ m.1.0)) (and_left (good_piece p) (good_pieces ps) m.0)
       (ap (λ (x : List ℕ). 0x5C ∷ x) (past text at 1 e) ∙ sym e ∙ m.1.1) in
-      (r.0, r.1, (and_right (good_piece p) (good_pieces ps) m.0, (m.1.0, r.2)))
+      (r.0, r.1, r.2, (and_right (good_piece p) (good_pieces ps) m.0, (m.1.0, r.3)))
 
-  pub unit_escaped : (u next : ℕ) → EscapeAt text (at + 1) u next → (ps : List Piece) → NameAt text at ps → first_state ps ≡ 3 → UnitAt text ps u next
+  pub unit_escaped : (o : Option UnitRead) → EscapeAt text (at + 1) o → (ps : List Piece) → NameAt text at ps → first_state ps ≡ 3 → UnitAt text ps o
   unfolding first_state pieces_text piece_text
-  unit_escaped u next h [] m s = absurd (omega arith)
-  unit_escaped u next h (plain b ∷ ps) m s = absurd (omega arith)
-  unit_escaped u next h (short c ∷ ps) m s = unit_piece u next h (short c) _ ps m m.1.1
-  unit_escaped u next h (unicode a b c d ∷ ps) m s = unit_piece u next h (unicode a b c d) _ ps m m.1.1
+  unit_escaped o h [] m s = absurd (omega arith)
+  unit_escaped o h (plain b ∷ ps) m s = absurd (omega arith)
+  unit_escaped o h (short c ∷ ps) m s = unit_piece o h (short c) _ ps m m.1.1
+  unit_escaped o h (unicode a b c d ∷ ps) m s = unit_piece o h (unicode a b c d) _ ps m m.1.1
 
-  pub unit_none : (next : ℕ) (ps : List Piece) → NameAt text at ps → (first_state ps ≡ 2 → ⊥) → (first_state ps ≡ 3 → ⊥) → UnitAt text ps 65536 next
+  pub unit_none : (ps : List Piece) → NameAt text at ps → (first_state ps ≡ 2 → ⊥) → (first_state ps ≡ 3 → ⊥) → UnitAt text ps None
   unfolding first_state UnitAt
-  unit_none next [] m n k = refl
-  unit_none next (plain b ∷ ps) m n k = absurd (n refl)
-  unit_none next (short c ∷ ps) m n k = absurd (k refl)
-  unit_none next (unicode a b c d ∷ ps) m n k = absurd (k refl)
+  unit_none [] m n k = refl
+  unit_none (plain b ∷ ps) m n k = absurd (n refl)
+  unit_none (short c ∷ ps) m n k = absurd (k refl)
+  unit_none (unicode a b c d ∷ ps) m n k = absurd (k refl)

@@ -110,12 +110,12 @@ module _ (table : List ℕ) (right : RightTable table) where
     behind_one f b w e = ap (λ (x : ℕ). drop x text) (let z : suc f ≡ f + 1 = omega arith in z) ∙ ahead text f (b ∷ []) w e
 
     -- a value that is no string and, but for 0, no number
-    bare_right : (v : Value) (f s : ℕ) (first : Spot) → first ≡ spot (suc f) s → eqb s 16 ≡ false → eqb s 10 ≡ false → (s ≡ 16 → ⊥) → (s ≡ 0 → ⊥)
+    bare_right : (v : Value) (f s : ℕ) (first : Spot) → first ≡ spot (suc f) s → eqb s 16 ≡ false → eqb s 10 ≡ false → (s ≡ 16 → ⊥)
         → kind_at s ≡ kind_of v → quotes v ≡ 0 → small v ≡ true
         → length (value_text v []) ≡ length (value_bytes v) → reached table text (spot (suc f) s) 26 ≡ spot (f + length (value_bytes v)) 26
         → ReadRight table text f v (value_read table text first)
     unfolding value_read
-    bare_right v f s first e n16 n10 n n0 k q m l t =
+    bare_right v f s first e n16 n10 n k q m l t =
         subst (λ (x : Spot). ReadRight table text f v (value_read table text x)) (sym e)
         (rw (n16, n10)
         (subst (λ (x : Spot). ReadRight table text f v (bare s (suc f) x.place x)) (sym t)
@@ -123,7 +123,6 @@ module _ (table : List ℕ) (right : RightTable table) where
           kind = k;
           place = omega arith;
           end = omega arith;
-          stated = n0;
           numeric = λ h. absurd (n h);
           other = λ h. m;
           onward = ap (λ (x : ℕ). reached_over table 2 x 26 (drop x text)) (let z : f + length (value_bytes v) ≡ f + length (value_text v []) = omega arith in z);
@@ -147,7 +146,6 @@ module _ (table : List ℕ) (right : RightTable table) where
           kind = refl;
           place = omega arith;
           end = omega arith;
-          stated = λ h. omega arith;
           numeric = λ h. absurd (omega arith);
           other = λ h. refl;
           onward = ap (λ (x : ℕ). reached_over table 2 x 26 (drop x text)) (let z : suc f + n + 1
@@ -162,7 +160,7 @@ module _ (table : List ℕ) (right : RightTable table) where
         (subst (λ (l : List ℕ). ReadRight table text f (number (0x30 ∷ l)) (value_read table text first)) (sym es)
         (bare_right (number (0x30 ∷ [])) f 26 first
         (e ∙ turn_to table right f 9 (is 0x30) 26 d (ds ++ r) from_colon.nought (is_in d 0x30 ed) (λ q. omega arith))
-        refl refl (λ q. omega arith) (λ q. omega arith) refl refl refl refl
+        refl refl (λ q. omega arith) refl refl refl refl
         (reached_stop table 26 26 (suc f) (drop (suc f) text) refl ∙ ap (λ (x : ℕ). spot x 26) (let z : suc f ≡ f + 1 = omega arith in z))))
 
     digits_right : (d f : ℕ) (ds after : List ℕ) (c : ℕ) (rest : List ℕ) → in_set (range 0x31 0x39) d ≡ true → all is_digit ds ≡ true → all is_ws after
@@ -189,7 +187,6 @@ module _ (table : List ℕ) (right : RightTable table) where
           kind = refl;
           place = omega arith;
           end = omega arith;
-          stated = λ h. omega arith;
           numeric = λ h. (d ∷ ds, refl);
           other = λ h. absurd (h refl);
           onward =
@@ -202,16 +199,16 @@ module _ (table : List ℕ) (right : RightTable table) where
 
     -- a word from behind its first letter
     word_right : (k : Word) (f s c : ℕ) (cs r : List ℕ) → word_text k ≡ c ∷ cs → leads 9 (is c) s ≡ true → (s ≡ 9 → ⊥) → eqb s 16 ≡ false → eqb s 10
-        ≡ false → (s ≡ 16 → ⊥) → (s ≡ 0 → ⊥) → kind_at s ≡ kind_of (word k)
+        ≡ false → (s ≡ 16 → ⊥) → kind_at s ≡ kind_of (word k)
         → reached_over table 26 (suc f) s (cs ++ r) ≡ spot (suc f + length cs) 26 → drop f text ≡ word_text k ++ r
         → (first : Spot) → first ≡ turned_over table f 9 (word_text k ++ r) → ReadRight table text f (word k) (value_read table text first)
     unfolding value_text value_bytes quotes small reached
-    word_right k f s c cs r q m n9 n16 n10 n n0 kind over w first e =
+    word_right k f s c cs r q m n9 n16 n10 n kind over w first e =
         let w1 : drop (suc f) text ≡ cs ++ r = behind_one f c (cs ++ r) (w ∙ ap (λ (l : List ℕ). l ++ r) q) in
         let l : length (word_text k) ≡ suc (length cs) = ap length q in
         bare_right (word k) f s first
         (e ∙ ap (λ (l : List ℕ). turned_over table f 9 (l ++ r)) q ∙ turn_to table right f 9 (is c) s c (cs ++ r) m (is_set c) n9)
-        n16 n10 n n0 kind refl refl (ap length (append-nil (word_text k)))
+        n16 n10 n kind refl refl (ap length (append-nil (word_text k)))
         (ap (reached_over table 26 (suc f) s) w1 ∙ over ∙ ap (λ (x : ℕ). spot x 26) (let z : suc f + length cs ≡ f + length (word_text k) = omega arith in z))
 
     to_value : (p s : ℕ) (r : List ℕ) → s ≡ 26 → (q : ℕ) → p ≡ q → reached_over table 26 p s r ≡ spot q 26
@@ -230,8 +227,7 @@ module _ (table : List ℕ) (right : RightTable table) where
         (number_cases d ds g)
     value_law (word true_word) f after c rest g h k w first e =
         let r = after ++ c ∷ rest in
-        word_right true_word f 17 0x74 (0x72 ∷ 0x75 ∷ 0x65 ∷ []) r refl from_colon.true_word (λ q. omega arith) refl refl (λ q. omega arith)
-        (λ q. omega arith) refl
+        word_right true_word f 17 0x74 (0x72 ∷ 0x75 ∷ 0x65 ∷ []) r refl from_colon.true_word (λ q. omega arith) refl refl (λ q. omega arith) refl
         (reach_is table right 26 (suc f) 17 18 0x72 (0x75 ∷ 0x65 ∷ r) in_word.t_r (λ q. omega arith)
         ∙ reach_is table right 26 (suc (suc f)) 18 19 0x75 (0x65 ∷ r) in_word.tr_u (λ q. omega arith)
         ∙ reach_is table right 26 (suc (suc (suc f))) 19 26 0x65 r in_word.u_e (λ q. omega arith)
@@ -239,8 +235,7 @@ module _ (table : List ℕ) (right : RightTable table) where
         w first e
     value_law (word false_word) f after c rest g h k w first e =
         let r = after ++ c ∷ rest in
-        word_right false_word f 20 0x66 (0x61 ∷ 0x6C ∷ 0x73 ∷ 0x65 ∷ []) r refl from_colon.false_word (λ q. omega arith) refl refl (λ q. omega arith)
-        (λ q. omega arith) refl
+        word_right false_word f 20 0x66 (0x61 ∷ 0x6C ∷ 0x73 ∷ 0x65 ∷ []) r refl from_colon.false_word (λ q. omega arith) refl refl (λ q. omega arith) refl
         (reach_is table right 26 (suc f) 20 21 0x61 (0x6C ∷ 0x73 ∷ 0x65 ∷ r) in_word.f_a (λ q. omega arith)
         ∙ reach_is table right 26 (suc (suc f)) 21 22 0x6C (0x73 ∷ 0x65 ∷ r) in_word.fa_l (λ q. omega arith)
         ∙ reach_is table right 26 (suc (suc (suc f))) 22 19 0x73 (0x65 ∷ r) in_word.fal_s (λ q. omega arith)
@@ -249,8 +244,7 @@ module _ (table : List ℕ) (right : RightTable table) where
         w first e
     value_law (word null_word) f after c rest g h k w first e =
         let r = after ++ c ∷ rest in
-        word_right null_word f 23 0x6E (0x75 ∷ 0x6C ∷ 0x6C ∷ []) r refl from_colon.null_word (λ q. omega arith) refl refl (λ q. omega arith)
-        (λ q. omega arith) refl
+        word_right null_word f 23 0x6E (0x75 ∷ 0x6C ∷ 0x6C ∷ []) r refl from_colon.null_word (λ q. omega arith) refl refl (λ q. omega arith) refl
         (reach_is table right 26 (suc f) 23 24 0x75 (0x6C ∷ 0x6C ∷ r) in_word.n_u (λ q. omega arith)
         ∙ reach_is table right 26 (suc (suc f)) 24 25 0x6C (0x6C ∷ r) in_word.nu_l (λ q. omega arith)
         ∙ reach_is table right 26 (suc (suc (suc f))) 25 26 0x6C r in_word.nul_l (λ q. omega arith)

@@ -1,8 +1,9 @@
 -- Looking a name up in a header (document 02, K2).
 -- Assumes nothing.
-use Rattle.std.specs.Prelude.{ℕ, ◌+◌, ◌*◌, ◌-◌, Bool, true, false, cond, not, ◌&&◌, ◌||◌, List, [], ◌∷◌, leb, eqb, length}
+use Rattle.std.specs.Prelude.{ℕ, ◌+◌, ◌*◌, ◌-◌, Bool, true, false, cond, not, ◌&&◌, ◌||◌, List, [], ◌∷◌, leb, eqb, length, Result}
+use Rattle.std.specs.Prelude.{Option as Optional, Some, None}
 use Rattle.std.proofs.Math.Option.{Option, none, some}
-use Rattle.seven_bit.specs.Reply.{Reply, granted, refused, ◌else◌then◌}
+use Rattle.seven_bit.specs.Reply.{Reply, granted, refused, ◌else◌then◌, told}
 use Rattle.seven_bit.specs.SevenBit.{is_seven_bit}
 use Rattle.flat_json.specs.Tree.{is_digit, Piece, plain, short, unicode, true_word, false_word, null_word, word_text, Value, string, number, word, Entry}
 use Rattle.flat_json.specs.Tree.{Inside, blank, entries, Tree, pieces_text, lead_text, entry_text}
@@ -132,7 +133,13 @@ json_number JsonError.HeaderTooLong = 33
 json_number JsonError.NotFlatObject = 34
 json_number JsonError.NameTwice = 35
 
-abbrev pub found_told : Found → Reply Lookup
-found_told (Found.Value kind place len) = granted (value_of kind place len)
-found_told Found.Absent = granted absent
-found_told (Found.Refused e) = refused (json_number e) 0
+abbrev pub json_value : JsonError → ℕ
+json_value e = 0
+
+-- A result of this crate in these terms: its value by f, or the refusal.
+abbrev pub json_told : {T A : Type 0} → (T → A) → Result T JsonError → Reply A
+json_told f r = told f json_number json_value r
+
+abbrev pub lookup_of : Optional Found → Lookup
+lookup_of (Some f) = value_of f.kind f.place f.len
+lookup_of None = absent

@@ -1,14 +1,15 @@
 -- What the steps of `find` answer about members, in the terms of a tree.
 -- Assumes nothing.
-use Rattle.std.specs.Prelude.{ℕ, ◌+◌, ◌-◌, ◌≤◌, true, cond, ◌&&◌, ◌||◌, List, [], ◌∷◌, ◌++◌, ◌⊎◌, ◌≡◌, eqb, length, drop, take}
+use Rattle.std.specs.Prelude.{ℕ, ◌+◌, ◌-◌, ◌≤◌, true, cond, ◌&&◌, ◌||◌, List, [], ◌∷◌, ◌++◌, ◌⊎◌, ◌≡◌, eqb, length, drop, take, Option, Some, None}
 use Rattle.flat_json.specs.declared.Spot.{Spot}
 use Rattle.flat_json.specs.Table.{spot, reached_over}
 use Rattle.flat_json.specs.Tree.{is_ws, all, Value, number, Entry, GoodEntry, GoodEntries, pieces_text, value_text, entry_text, entries_text, text as tree_text}
 use Rattle.flat_json.specs.Tree.{Tree, Good}
+use Rattle.pe_header.specs.declared.Found.{Found}
 use Rattle.pe_header.specs.declared.Kind.{Kind}
 use Rattle.pe_header.specs.declared.members.Value.{Value as ValueRead}
 use Rattle.pe_header.specs.declared.members.Walk.{Walk}
-use Rattle.pe_header.specs.Find.{kind_of, value_bytes, quotes, Lookup, absent, value_of, look_up, small, all_small, list}
+use Rattle.pe_header.specs.Find.{kind_of, value_bytes, quotes, Lookup, lookup_of, look_up, small, all_small, list}
 
 -- An entry from behind the opening quotation mark of its name.
 unfoldable pub name_text : Entry → List ℕ → List ℕ
@@ -35,7 +36,6 @@ pub record ReadRight (table text : List ℕ) (from : ℕ) (v : Value) (r : Value
   pub kind : kind_at r.state ≡ kind_of v
   pub place : r.place ≡ from + quotes v
   pub end : r.end ≡ r.place + length (value_bytes v)
-  pub stated : r.state ≡ 0 → ⊥
   pub numeric : r.state ≡ 16 → (ds : List ℕ) × (v ≡ number ds)
   pub other : (r.state ≡ 16 → ⊥) → small v ≡ true
   pub onward : reached_over table 2 r.at.place r.at.state (drop r.at.place text)
@@ -53,9 +53,19 @@ Ahead text at from (e ∷ es) =
     (at ≡ spot (from + length e.before + 1) 2) × GoodEntry e × GoodEntries es
     × ((tail : List ℕ) × (all is_ws tail ≡ true) × (drop from text ≡ entry_text e (entries_text es (0x7D ∷ tail))))
 
+-- What is answered for a value that was read.
+abbrev pub found_of : ValueRead → Found
+found_of v = record { kind = kind_at v.state; place = v.place; len = v.end - v.place }
+
+-- What was found before, or else what is found now.
+unfoldable pub first_of : Option Found → Option Found → Option Found
+first_of (Some f) now = Some f
+first_of None now = now
+
 -- What was found, or else what a later look-up finds.
-unfoldable pub found_or : ValueRead → Lookup → Lookup
-found_or v later = cond (eqb v.state 0) later (value_of (kind_at v.state) v.place (v.end - v.place))
+unfoldable pub found_or : Option Found → Lookup → Lookup
+found_or (Some f) later = lookup_of (Some f)
+found_or None later = later
 
 -- So far the entries of a list that begin at a place were read right: the names before those still to be read were noted at the front of the column,
 -- `small` tells of the numbers before them, and `found` of the first of the name before them.
@@ -67,15 +77,13 @@ pub record SoFar (text name : List ℕ) (from : ℕ) (es : List Entry) (names : 
   pub numbers : all_small es ≡ (walk.small && all_small rest)
   pub noted : take walk.names names ++ name_places here rest ≡ name_places from es
   pub looked : look_up name from es ≡ found_or walk.found (look_up name here rest)
-  pub lies : (walk.found.state ≡ 0 → ⊥) → walk.found.place ≤ walk.found.end
 
 -- All entries of a list that begin at a place were read.
 pub record AllRead (name : List ℕ) (from : ℕ) (es : List Entry) (names : List ℕ) (walk : Walk) : Type 0 where
   pub count : walk.names ≡ length es
   pub numbers : walk.small ≡ all_small es
   pub noted : take walk.names names ≡ name_places from es
-  pub looked : look_up name from es ≡ found_or walk.found absent
-  pub lies : (walk.found.state ≡ 0 → ⊥) → walk.found.place ≤ walk.found.end
+  pub looked : look_up name from es ≡ lookup_of walk.found
 
 -- The text is that of a tree, and all of it was read.
 pub record TreeRead (text name names : List ℕ) (walk : Walk) : Type 0 where

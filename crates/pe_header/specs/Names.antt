@@ -1,7 +1,8 @@
 -- What the steps of `find` answer about names: where names stand in a text, and a fingerprint of units.
 -- Assumes nothing.
-use Rattle.std.specs.Prelude.{ℕ, ◌+◌, ◌*◌, ◌%◌, ◌≤◌, ◌<◌, Bool, true, List, [], ◌∷◌, ◌≡◌, drop, get_or}
+use Rattle.std.specs.Prelude.{ℕ, ◌+◌, ◌*◌, ◌%◌, ◌≤◌, ◌<◌, Bool, true, List, [], ◌∷◌, ◌≡◌, drop, get_or, Option, Some, None}
 use Rattle.flat_json.specs.Tree.{Piece, is_hex, good_piece, good_pieces, piece_text, pieces_text, Entry}
+use Rattle.pe_header.specs.declared.names.Unit.{Unit as UnitRead}
 use Rattle.pe_header.specs.Find.{hex_value, unit, units, any_named}
 
 -- At a place stands a name, its closing quotation mark behind it.
@@ -12,15 +13,20 @@ NameAt text place name = (good_pieces name ≡ true) × ((rest : List ℕ) × (d
 abbrev pub PairAt : List ℕ → ℕ → ℕ → Type 0
 PairAt text place n = (a b : ℕ) (rest : List ℕ) → is_hex a ≡ true → is_hex b ≡ true → drop place text ≡ a ∷ b ∷ rest → n ≡ hex_value a * 16 + hex_value b
 
--- A unit is that of the escape whose reverse solidus stands before a place, if there is one, and behind it is the next place.
-abbrev pub EscapeAt : List ℕ → ℕ → ℕ → ℕ → Type 0
-EscapeAt text place u next =
-    (p : Piece) (rest : List ℕ) → good_piece p ≡ true → 0x5C ∷ drop place text ≡ piece_text p rest → (u ≡ unit p) × (u < 65536) × (drop next text ≡ rest)
+-- What is read is the unit of the escape whose reverse solidus stands before a place, if there is one, and what follows it.
+abbrev pub EscapeAt : List ℕ → ℕ → Option UnitRead → Type 0
+EscapeAt text place o =
+    (p : Piece) (rest : List ℕ) → good_piece p ≡ true → 0x5C ∷ drop place text ≡ piece_text p rest
+    → (u : UnitRead) × (o ≡ Some u) × (u.unit ≡ unit p) × (drop u.next text ≡ rest)
 
--- What is told of a name's first unit: the unit and the place of the rest of the name, or 65,536 where the name has no unit.
-unfoldable pub UnitAt : List ℕ → List Piece → ℕ → ℕ → Type 0
-UnitAt text [] u next = u ≡ 65536
-UnitAt text (p ∷ ps) u next = (u ≡ unit p) × (u < 65536) × NameAt text next ps
+-- What is read of a name is its first unit and the place of the rest of the name, or nothing where the name has no unit.
+unfoldable pub UnitAt : List ℕ → List Piece → Option UnitRead → Type 0
+UnitAt text [] o = o ≡ None
+UnitAt text (p ∷ ps) o = (u : UnitRead) × (o ≡ Some u) × (u.unit ≡ unit p) × NameAt text u.next ps
+
+-- The same of whatever name stands at a place.
+abbrev pub First : List ℕ → ℕ → Option UnitRead → Type 0
+First text place o = (ps : List Piece) → NameAt text place ps → UnitAt text ps o
 
 -- At each of the places stands the name of the entry in its turn.
 unfoldable pub NamesAt : List ℕ → List ℕ → List Entry → Type 0

@@ -1,9 +1,10 @@
 // Names as 16-bit units, escapes resolved. A name is told by the place behind its opening quotation mark.
-ghost use Rattle.std.specs.Prelude.{◌≡◌, true, false, List, ◌+◌, ◌<◌, ◌≤◌, length, take, get_or};
+// `table` and `text` stay two parameters: a struct's ghost field can't hold `RightTable`, which antt doesn't prove to be a proposition (tried).
+ghost use Rattle.std.specs.Prelude.{◌≡◌, true, false, List, ◌+◌, ◌<◌, ◌≤◌, length, take, get_or, IfSome, MatchOption};
 ghost use Rattle.flat_json.specs.Table.{RightTable};
 ghost use Rattle.flat_json.specs.Tree.{Piece, is_hex, Entry};
 ghost use Rattle.pe_header.specs.Find.{units, short_unit, hex_value, same_units, repeated};
-ghost use Rattle.pe_header.specs.Names.{NameAt, PairAt, EscapeAt, UnitAt, NamesAt, print_of, Lacks, IsAmong};
+ghost use Rattle.pe_header.specs.Names.{NameAt, PairAt, EscapeAt, First, NamesAt, print_of, Lacks, IsAmong};
 
 use flat_json::states::{IN_NAME, NAME_ESCAPE};
 use flat_json::step;
@@ -13,16 +14,14 @@ const LONG_BLOCK: usize = 32;
 
 const SHORT_BLOCK: usize = 8;
 
-// More than 16 bits have.
-const NO_UNIT: u32 = 65536;
-
-// A unit of a name, and the place behind it; NO_UNIT where the name is over.
+// A unit of a name, and the place behind it.
 #[derive(Clone, Copy)]
 struct Unit {
     unit: u32,
     next: usize,
 }
 
+#[tactic(auto, unfolding(crate::specs::Find::short_unit))]
 fn short_unit(c: u8) -> u32
     ensures upper_bound { result < 256 }
     ensures value { result ≡ short_unit c }
@@ -38,6 +37,7 @@ fn short_unit(c: u8) -> u32
 }
 
 // Letters of either size lie nine behind the low four bits of their code.
+#[tactic(auto, using(crate::proofs::UnitLaws::hex_digit, crate::proofs::UnitLaws::hex_letter))]
 fn hex_value(b: u8) -> u32
     ensures upper_bound { result < 25 }
     ensures value { is_hex b ≡ true → result ≡ hex_value b }
@@ -55,57 +55,54 @@ fn hex_pair(text: &[u8], at: usize) -> u32
     hex_value(text[at]) * 16 + hex_value(text[at + 1])
 }
 
-// The unit of an escape, from behind its reverse solidus.
-fn escaped_at(table: &[u8; 3840], text: &[u8], at: usize) -> Unit
+// The unit of an escape, from behind its reverse solidus; None if there is none. Escapes are rare, and kept out of the loops that read names.
+#[cold]
+#[inline(never)]
+fn escaped_at(table: &[u8; 3840], text: &[u8], at: usize) -> Option<Unit>
     requires { RightTable table.now × (at ≤ length text.now) }
-    ensures at_le_next { (at ≤ result.next) × (result.next ≤ length text.now) × (result.unit < 131072) }
-    ensures escape_at { EscapeAt text.now at result.unit result.next }
+    ensures within { IfSome result (λ u. (at ≤ u.next) × (u.next ≤ length text.now) × (u.unit < 131072)) }
+    ensures escape_at { EscapeAt text.now at result }
 {
     if at == text.len() {
-        return Unit {
-            unit: NO_UNIT,
-            next: at,
-        };
+        return None;
     }
     let c = text[at];
     if step(table, NAME_ESCAPE, c) == IN_NAME {
-        return Unit {
+        return Some(Unit {
             unit: short_unit(c),
             next: at + 1,
-        };
+        });
     }
     if text.len() - at < 5 {
-        return Unit {
-            unit: NO_UNIT,
-            next: at,
-        };
+        return None;
     }
-    Unit {
+    Some(Unit {
         unit: hex_pair(text, at + 1) * 256 + hex_pair(text, at + 3),
         next: at + 5,
-    }
+    })
 }
 
-fn unit_at(table: &[u8; 3840], text: &[u8], at: usize) -> Unit
-    requires { RightTable table.now × (at < length text.now) }
-    ensures at_lt_next { (at < result.next) × (result.next ≤ length text.now) × (result.unit < 131072) }
-    ensures unit_at { (ps : List Piece) → NameAt text.now at ps → UnitAt text.now ps result.unit result.next }
+// The next unit of a name; None where the name is over.
+fn unit_at(table: &[u8; 3840], text: &[u8], at: usize) -> Option<Unit>
+    requires { RightTable table.now }
+    ensures within { IfSome result (λ u. (at < u.next) × (u.next ≤ length text.now) × (u.unit < 131072)) }
+    ensures unit_at { First text.now at result }
 {
+    if text.len() <= at {
+        return None;
+    }
     let b = text[at];
     let state = step(table, IN_NAME, b);
     if state == IN_NAME {
-        return Unit {
+        return Some(Unit {
             unit: b as u32,
             next: at + 1,
-        };
+        });
     }
     if state == NAME_ESCAPE {
         return escaped_at(table, text, at + 1);
     }
-    Unit {
-        unit: NO_UNIT,
-        next: at + 1,
-    }
+    None
 }
 
 // Do two names have the same units?
@@ -115,22 +112,16 @@ fn same_name(table: &[u8; 3840], text: &[u8], one: usize, other: usize) -> bool
 {
     let mut i = one;
     let mut j = other;
-    while i < text.len() {
-        if text.len() <= j {
-            return false;
+    while let Some(a) = unit_at(table, text, i) {
+        match unit_at(table, text, j) {
+            Some(b) if a.unit == b.unit => {
+                i = a.next;
+                j = b.next;
+            }
+            _ => return false,
         }
-        let a = unit_at(table, text, i);
-        let b = unit_at(table, text, j);
-        if a.unit != b.unit {
-            return false;
-        }
-        if a.unit == NO_UNIT {
-            return true;
-        }
-        i = a.next;
-        j = b.next;
     }
-    false
+    unit_at(table, text, j).is_none()
 }
 
 // Are these the units of a name?
@@ -139,19 +130,13 @@ pub(crate) fn is_named(table: &[u8; 3840], text: &[u8], at: usize, name: &[u8]) 
     ensures { (ps : List Piece) → NameAt text.now at ps → result ≡ same_units (units ps) name.now }
 {
     let mut i = at;
-    let mut k = 0;
-    while i < text.len() {
-        let a = unit_at(table, text, i);
-        if k == name.len() {
-            return a.unit == NO_UNIT;
+    for b in name {
+        match unit_at(table, text, i) {
+            Some(a) if a.unit == *b as u32 => i = a.next,
+            _ => return false,
         }
-        if a.unit != name[k] as u32 {
-            return false;
-        }
-        i = a.next;
-        k += 1;
     }
-    false
+    unit_at(table, text, i).is_none()
 }
 
 // A number that equal names have in common.
@@ -161,11 +146,7 @@ fn fingerprint(table: &[u8; 3840], text: &[u8], at: usize) -> u16
 {
     let mut print = 0u32;
     let mut i = at;
-    while i < text.len() {
-        let a = unit_at(table, text, i);
-        if a.unit == NO_UNIT {
-            return print as u16;
-        }
+    while let Some(a) = unit_at(table, text, i) {
         print = (print * 40503 + a.unit) % 65536;
         i = a.next;
     }
@@ -177,15 +158,13 @@ fn has_print(prints: &[u16], print: u16) -> bool
     ensures { result ≡ false → Lacks prints.now print 0 (length prints.now) }
 {
     let mut found = false;
-    let mut i = 0;
-    while i < prints.len() {
-        found = found | (prints[i] == print);
-        i += 1;
+    for p in prints {
+        found |= *p == print;
     }
     found
 }
 
-// Passes whole blocks of other fingerprints.
+// Passes whole blocks of other fingerprints. A while, as in syx's `skip`, where `chunks_exact(block).take_while(..).count()` was slower.
 fn pass_blocks(prints: &[u16], from: usize, to: usize, print: u16, block: usize) -> usize
     requires { (from ≤ to) × (to ≤ length prints.now) × (0 < block) }
     ensures { (from ≤ result) × (result ≤ to) × Lacks prints.now print from result }
@@ -200,15 +179,16 @@ fn pass_blocks(prints: &[u16], from: usize, to: usize, print: u16, block: usize)
     i
 }
 
-// The next place with a fingerprint, or `to` where there is none: long blocks of others are passed first, then short ones.
+// The next place with a fingerprint: long blocks of others are passed first, then short ones.
 // Proved is that none with it is passed over: whether names are the same is for their units to say.
-fn next_equal(prints: &[u16], from: usize, to: usize, print: u16) -> usize
+fn next_equal(prints: &[u16], from: usize, to: usize, print: u16) -> Option<usize>
     requires { (from ≤ to) × (to ≤ length prints.now) }
-    ensures { (from ≤ result) × (result ≤ to) × Lacks prints.now print from result }
+    ensures { MatchOption result (Lacks prints.now print from to) (λ at. (from ≤ at) × (at < to) × Lacks prints.now print from at) }
 {
     let near = pass_blocks(prints, from, to, print, LONG_BLOCK);
     let nearer = pass_blocks(prints, near, to, print, SHORT_BLOCK);
-    pass_blocks(prints, nearer, to, print, 1)
+    let at = pass_blocks(prints, nearer, to, print, 1);
+    if at < to { Some(at) } else { None }
 }
 
 // Is name k, whose fingerprint is given, one of the names before it? Only where fingerprints are equal are units compared.
@@ -225,11 +205,7 @@ fn seen(
         → IsAmong text.now (take k names.now) (take k prints.now) ps result }
 {
     let mut j = 0;
-    while j < k {
-        let at = next_equal(prints, j, k, print);
-        if at == k {
-            return false;
-        }
+    while let Some(at) = next_equal(prints, j, k, print) {
         if same_name(table, text, names[at] as usize, names[k] as usize) {
             return true;
         }
@@ -249,14 +225,12 @@ pub(crate) fn stands_twice(
     requires { RightTable table.now × (count ≤ length names.now) × (count ≤ length prints.old) }
     ensures { (es : List Entry) → NamesAt text.now (take count names.now) es → result ≡ repeated es }
 {
-    let mut k = 0;
-    while k < count {
+    for k in 0..count {
         let print = fingerprint(table, text, names[k] as usize);
         if seen(table, text, names, prints, k, print) {
             return true;
         }
         prints[k] = print;
-        k += 1;
     }
     false
 }

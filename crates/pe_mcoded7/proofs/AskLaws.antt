@@ -1,22 +1,19 @@
 -- The laws of the questions that are put to the groups of a text, and the cases of reading and writing.
 -- Assumes nothing.
-use Prim.Native.Nat.{ℕ, zero, suc, ◌+◌, ◌-◌, ◌%◌, ◌^◌, min, ◌<◌, ◌≤◌}
-use mathlib.Core.Bool.{true, false}
+use Prim.Native.Nat.{ℕ, zero, suc, ◌-◌, ◌%◌, ◌^◌, ◌<◌, ◌≤◌}
+use mathlib.Core.Bool.{true}
 use mathlib.Core.List.{List, [], ◌∷◌, ◌++◌}
 use mathlib.Core.Path.{◌≡◌, refl, ◌∙◌}
 use native.Mathlib.Omega.{arith}
-use borrow.Author.Tests.{le-leb, lt-leb, leb-true, eq-eqb, ne_eqb, eqb-true}
+use borrow.Author.Tests.{le-leb, lt-leb, leb-true, eq-eqb, eqb-true}
 use lib.Dec.{leb, eqb}
-use lib.ListN.{length, get_or, take, drop, length-drop, take-append-drop}
+use lib.ListN.{length, get_or, take, drop, take-append-drop}
 use Rattle.seven_bit.specs.Reply.{Reply, granted, refused, ◌else◌then◌, and_next}
 use Rattle.seven_bit.specs.SevenBit.{is_seven_bit}
 use Rattle.seven_bit.proofs.ReplyLaws.{asked, then_else}
 use Rattle.seven_bit.proofs.SevenBitLaws.{seven_bit_cons, seven_bit_split}
-use Rattle.pe_wire.specs.Wire.{encoded_told}
-use Rattle.pe_wire.specs.declared.error.PeError.{PeError}
-use Rattle.pe_wire.specs.declared.wire.Encoded.{Encoded}
 use Rattle.pe_mcoded7.specs.Mcoded7.{encoded, write_mcoded7, groups, decoded, ask_group, ask_groups, read_mcoded7}
-use Rattle.pe_mcoded7.proofs.TextLaws.{by_groups, group_is, after_group, groups_none, groups_next}
+use Rattle.pe_mcoded7.proofs.TextLaws.{nothing, by_groups, groups_none, groups_next, Chunk, chunk_front, chunk_behind}
 
 -- what follows the questions may be put after them
 then_group : {A B : Type 0} (g : List ℕ) (r : Reply A) (r' : Reply B) (f : A → Reply B) → r' ≡ and_next r f → ask_group g r' ≡ and_next (ask_group g r) f
@@ -32,20 +29,7 @@ unfolding ask_groups
 then_groups [] r r' f e = e
 then_groups (g ∷ gs) r r' f e = then_group g (ask_groups gs r) (ask_groups gs r') f (then_groups gs r r' f e)
 
--- a group's answer, by the code's tests
-pub group_short : {A : Type 0} (g : List ℕ) (next : Reply A) → length g < 2 → ask_group g next ≡ refused 9 0
-unfolding ask_group
-group_short g next h = rw (lt-leb _ _ h)
-
-pub group_high : {A : Type 0} (g : List ℕ) (next : Reply A) → 2 ≤ length g → is_seven_bit g ≡ false → ask_group g next ≡ refused 1 0
-unfolding ask_group
-group_high g next h l = rw (le-leb _ _ h, l)
-
-pub group_spare : {A : Type 0} (g : List ℕ) (next : Reply A) → 2 ≤ length g → is_seven_bit g ≡ true → (get_or g 0 0 % 2 ^ (8 - length g) ≡ 0 → ⊥)
-    → ask_group g next ≡ refused 9 0
-unfolding ask_group
-group_spare g next h l n = rw (le-leb _ _ h, l, ne_eqb _ _ n)
-
+-- a group that is allowed
 pub group_good : {A : Type 0} (g : List ℕ) (next : Reply A) → 2 ≤ length g → is_seven_bit g ≡ true → get_or g 0 0 % 2 ^ (8 - length g) ≡ 0 → ask_group g next ≡ next
 unfolding ask_group
 group_good g next h l e = rw (le-leb _ _ h, l, eq-eqb _ _ e)
@@ -54,43 +38,26 @@ group_good g next h l e = rw (le-leb _ _ h, l, eq-eqb _ _ e)
 abbrev pub ask_text : List ℕ → Reply ℕ
 ask_text s = ask_groups (groups s) (granted 0)
 
--- what follows a check that found nothing, and one that refused
-pub told_wrote : {A : Type 0} (r : Encoded) (k : ℕ) (next : Reply A) → r ≡ Encoded.Wrote k → and_next (encoded_told r) (λ _. next) ≡ next
-told_wrote r k next e = rw e
-
-pub told_refused : (r : Encoded) (e : PeError) (next : Reply ℕ) → r ≡ Encoded.Refused e → and_next (encoded_told r) (λ _. next) ≡ encoded_told r
-told_refused r e next q = rw q
-
--- the group that starts at i, and those after it
-pub check_next : (s : List ℕ) (i end : ℕ) (r : Reply ℕ) → i < length s → end ≡ i + min 8 (length s - i)
-    → r ≡ ask_group (take (end - i) (drop i s)) (granted 0) → ask_text (drop i s) ≡ and_next r (λ _. ask_text (drop end s))
+-- the first group, and those after it
+pub check_next : {s g rest : List ℕ} → Chunk 8 s g rest → ask_text s ≡ and_next (ask_group g (granted 0)) (λ (_ : ℕ). ask_text rest)
 unfolding ask_groups
-check_next s i end r h e q =
-    let p : 0 < length (drop i s) = omega (arith, length-drop i s) in
-    rw (q, group_is 8 i end s e, after_group 8 i end s e, groups_next (drop i s) p)
-    (then_group {A = ℕ} (take 8 (drop i s)) (granted 0) _ (λ _. ask_text (drop 8 (drop i s))) refl)
+check_next {s} {g} {rest} c =
+    rw (groups_next s c.some, chunk_front c, chunk_behind c) (then_group {A = ℕ} g (granted 0) _ (λ _. ask_text rest) refl)
 
-pub check_end : (s : List ℕ) → s ≡ [] → ask_text s ≡ granted 0
+pub check_end : (rest : List ℕ) → length rest ≡ 0 → ask_text rest ≡ granted 0
 unfolding ask_groups
-check_end s e = rw (e, groups_none)
+check_end rest e = rw (nothing rest e, groups_none)
 
 -- a text's answer: a refusal of its groups, or no room, or its bytes
-read_then : (s : List ℕ) (room : ℕ) → read_mcoded7 s room ≡ and_next (ask_text s) (λ _. leb (length (decoded s)) room else 3 then granted (decoded s))
+pub read_then : (s : List ℕ) (room : ℕ) → read_mcoded7 s room ≡ and_next (ask_text s) (λ _. leb (length (decoded s)) room else 3 then granted (decoded s))
 unfolding read_mcoded7
 read_then s room = then_groups {A = ℕ} (groups s) (granted 0) _ (λ _. leb (length (decoded s)) room else 3 then granted (decoded s)) refl
 
-pub read_refused : (s : List ℕ) (room number value : ℕ) → ask_text s ≡ refused number value → read_mcoded7 s room ≡ refused number value
-read_refused s room number value q = read_then s room ∙ rw q
+pub read_short : (s : List ℕ) (room : ℕ) → ask_text s ≡ granted 0 → room < length (decoded s) → read_mcoded7 s room ≡ refused 3 0
+read_short s room q h = read_then s room ∙ rw (q, lt-leb _ _ h)
 
-pub read_short : (s : List ℕ) (room k : ℕ) → ask_text s ≡ granted k → room < length (decoded s) → read_mcoded7 s room ≡ refused 3 0
-read_short s room k q h = read_then s room ∙ rw (q, lt-leb _ _ h)
-
-pub read_granted : (s : List ℕ) (room k : ℕ) → ask_text s ≡ granted k → length (decoded s) ≤ room → read_mcoded7 s room ≡ granted (decoded s)
-read_granted s room k q h = read_then s room ∙ rw (q, le-leb _ _ h)
-
-pub write_short : (xs : List ℕ) (room : ℕ) → room < length (encoded xs) → write_mcoded7 xs room ≡ refused 3 0
-unfolding write_mcoded7
-write_short xs room h = rw (lt-leb _ _ h)
+pub read_granted : (s : List ℕ) (room : ℕ) → ask_text s ≡ granted 0 → length (decoded s) ≤ room → read_mcoded7 s room ≡ granted (decoded s)
+read_granted s room q h = read_then s room ∙ rw (q, le-leb _ _ h)
 
 pub write_granted : (xs : List ℕ) (room : ℕ) → length (encoded xs) ≤ room → write_mcoded7 xs room ≡ granted (encoded xs)
 unfolding write_mcoded7
@@ -132,11 +99,11 @@ pub groups_told : {A : Type 0} (s : List ℕ) (next : Reply A) (a : A) → 0 < l
 unfolding ask_groups
 groups_told s next a h q = group_told (take 8 s) _ a (rw (groups_next s h) at q)
 
-pub groups_low : (s : List ℕ) (k : ℕ) → ask_text s ≡ granted k → is_seven_bit s ≡ true
+pub groups_low : (s : List ℕ) → ask_text s ≡ granted 0 → is_seven_bit s ≡ true
 unfolding is_seven_bit
 groups_low =
-    by_groups 8 (λ (s : List ℕ). (k : ℕ) → ask_text s ≡ granted k → is_seven_bit s ≡ true) (omega arith)
-    (λ k q. refl)
-    (λ s h ih k q.
-    let t = groups_told {A = ℕ} s (granted 0) k h q in
-    rw (take-append-drop 8 s) at (seven_bit_join (take 8 s) (drop 8 s) t.0.low (ih k t.1)))
+    by_groups 8 (λ (s : List ℕ). ask_text s ≡ granted 0 → is_seven_bit s ≡ true) (omega arith)
+    (λ q. refl)
+    (λ s h ih q.
+    let t = groups_told {A = ℕ} s (granted 0) 0 h q in
+    rw (take-append-drop 8 s) at (seven_bit_join (take 8 s) (drop 8 s) t.0.low (ih t.1)))

@@ -1,18 +1,18 @@
 -- The laws of the loops' stores: what is stored and what is left to store make the whole.
 -- Assumes nothing.
-use Prim.Native.Nat.{ℕ, suc, ◌+◌, ◌-◌, ◌*◌, ◌/◌, ◌%◌, min, ◌<◌, ◌≤◌}
+use Prim.Native.Nat.{ℕ, suc, ◌+◌, ◌*◌, ◌/◌, ◌%◌, ◌<◌, ◌≤◌}
 use mathlib.Core.List.{List, [], ◌∷◌, map}
 use mathlib.Core.Path.{◌≡◌, refl, sym, ap, ◌∙◌}
 use native.Mathlib.Numerals.{add-one}
 use native.Mathlib.Omega.{arith}
-use lib.ListN.{length, get_or, take, drop, set, length-take, length-drop}
+use lib.ListN.{length, get_or, drop, set, length-drop}
 use lib.Seq.{drop-cons, set_comm}
 use Rattle.seven_bit.specs.Parts.{put}
 use Rattle.seven_bit.specs.Reply.{Reply, granted, outcome, writing}
-use Rattle.seven_bit.proofs.PartLaws.{length_put, put_put, put_none, put_front}
-use Rattle.pe_mcoded7.specs.Mcoded7.{flags, group_bytes, encoded, restored, group_data, decoded}
+use Rattle.seven_bit.proofs.PartLaws.{put_put, put_none, put_front}
+use Rattle.pe_mcoded7.specs.Mcoded7.{flags, group_bytes, restored, group_data}
 use Rattle.pe_mcoded7.proofs.FlagLaws.{flags_next, restored_next}
-use Rattle.pe_mcoded7.proofs.TextLaws.{group_is, after_group, InGroups, encoded_groups, decoded_groups, length_group_bytes, length_group_data}
+use Rattle.pe_mcoded7.proofs.TextLaws.{nothing, Chunk, chunk_next, InGroups}
 
 -- a store before others goes first
 set_put : (xs ys : List ℕ) (a b y : ℕ) → a < b → set (put xs b ys) a y ≡ put (set xs a y) b ys
@@ -47,43 +47,24 @@ pub group_stored : (out g : List ℕ) (a b i : ℕ) → b ≡ suc a → i ≡ 0
 unfolding group_bytes
 group_stored out g a b i e z = rw z (put_before out (map (λ (d : ℕ). d % 128) g) a b (flags 6 g) e)
 
--- what is made of a group is stored, and of what follows it is left to store
-group_next : (k : ℕ) (one whole : List ℕ → List ℕ) (w : InGroups k one whole) (out₀ out after xs : List ℕ) (at i end size : ℕ) → i < length xs
-    → end ≡ i + min k (length xs - i) → length (one (take k (drop i xs))) ≡ size → put out at (whole (drop i xs)) ≡ put out₀ 0 (whole xs)
-    → length out ≡ length out₀ → after ≡ put out at (one (take (end - i) (drop i xs)))
-    → (put after (at + size) (whole (drop end xs)) ≡ put out₀ 0 (whole xs)) × (length after ≡ length out₀)
-group_next k one whole w out₀ out after xs at i end size h e n r l q =
-    let p : 0 < length (drop i xs) = omega (arith, length-drop i xs) in
-    let s : put after (at + size) (whole (drop end xs)) ≡ put out at (whole (drop i xs)) =
-    rw (q, group_is k i end xs e, after_group k i end xs e, w.next (drop i xs) p)
-    (put_put out at (one (take k (drop i xs))) (whole (drop k (drop i xs))) (at + size) (ap (λ (m : ℕ). at + m) (sym n))) in
-    (s ∙ r, ap length q ∙ length_put out at _ ∙ l)
-
-pub encode_next : (out₀ out after xs : List ℕ) (at i end : ℕ) → i < length xs → end ≡ i + min 7 (length xs - i)
-    → put out at (encoded (drop i xs)) ≡ put out₀ 0 (encoded xs) → length out ≡ length out₀ → after ≡ put out at (group_bytes (take (end - i) (drop i xs)))
-    → (put after (at + (1 + (end - i))) (encoded (drop end xs)) ≡ put out₀ 0 (encoded xs)) × (length after ≡ length out₀)
-encode_next out₀ out after xs at i end h e =
-    group_next 7 group_bytes encoded encoded_groups out₀ out after xs at i end (1 + (end - i)) h e
-    (omega (arith, length_group_bytes (take 7 (drop i xs)), length-take 7 (drop i xs), length-drop i xs))
-
-pub decode_next : (out₀ out after s : List ℕ) (at i end : ℕ) → i < length s → end ≡ i + min 8 (length s - i)
-    → put out at (decoded (drop i s)) ≡ put out₀ 0 (decoded s) → length out ≡ length out₀ → after ≡ put out at (group_data (take (end - i) (drop i s)))
-    → (put after (at + (end - i - 1)) (decoded (drop end s)) ≡ put out₀ 0 (decoded s)) × (length after ≡ length out₀)
-decode_next out₀ out after s at i end h e =
-    group_next 8 group_data decoded decoded_groups out₀ out after s at i end (end - i - 1) h e
-    (omega (arith, length_group_data (take 8 (drop i s)), length-take 8 (drop i s), length-drop i s))
+-- what is made of a chunk is stored, and of what follows it is left to store
+pub chunk_stored : {k : ℕ} {one whole : List ℕ → List ℕ} {s g rest : List ℕ} (w : InGroups k one whole) → Chunk k s g rest
+    → (out : List ℕ) (at size : ℕ) → length (one g) ≡ size → put (put out at (one g)) (at + size) (whole rest) ≡ put out at (whole s)
+chunk_stored {k} {one} {whole} {s} {g} {rest} w c out at size n =
+    put_put out at (one g) (whole rest) (at + size) (ap (λ (m : ℕ). at + m) (sym n)) ∙ ap (put out at) (sym (chunk_next w c))
 
 -- nothing is left to store
-pub group_none : (k : ℕ) (one whole : List ℕ → List ℕ) (w : InGroups k one whole) (out xs : List ℕ) (at : ℕ) → xs ≡ [] → put out at (whole xs) ≡ out
-group_none k one whole w out xs at e = rw (e, w.none) (put_none out at)
+pub group_none : {k : ℕ} {one whole : List ℕ → List ℕ} → InGroups k one whole → (out rest : List ℕ) (at : ℕ) → length rest ≡ 0 → put out at (whole rest) ≡ out
+group_none {k} {one} {whole} w out rest at e = rw (nothing rest e, w.none) (put_none out at)
 
 -- a byte of a group, and those after it with the flags moved up
-pub restore_next : (out g : List ℕ) (a f i : ℕ) → f ≤ 127 → 1 ≤ i → i < length g → length g ≤ 8
-    → put (set out a (get_or g i 0 + f / 64 * 128)) (a + 1) (restored (f % 64 * 2) 6 (drop (i + 1) g)) ≡ put out a (restored f 6 (drop i g))
-restore_next out g a f i k p h l =
-    let n : length (drop (suc i) g) ≤ 6 = omega (arith, length-drop (suc i) g) in
-    rw (add-one i, drop-cons g i 0 h, restored_next f (get_or g i 0) (drop (suc i) g) k n)
-    (put_first out (restored (f % 64 * 2) 6 (drop (suc i) g)) a (get_or g i 0 + f / 64 * 128))
+pub restore_next : (out ds : List ℕ) (at f i : ℕ) → f ≤ 127 → i < length ds → length ds ≤ 7
+    → put (set out (at + i) (get_or ds i 0 + f / 64 * 128)) (at + (i + 1)) (restored (f % 64 * 2) 6 (drop (i + 1) ds)) ≡ put out (at + i) (restored f 6 (drop i ds))
+restore_next out ds at f i k h l =
+    let n : length (drop (suc i) ds) ≤ 6 = omega (arith, length-drop (suc i) ds) in
+    let e : at + (i + 1) ≡ at + i + 1 = omega arith in
+    rw (e, add-one i, drop-cons ds i 0 h, restored_next f (get_or ds i 0) (drop (suc i) ds) k n)
+    (put_first out (restored (f % 64 * 2) 6 (drop (suc i) ds)) (at + i) (get_or ds i 0 + f / 64 * 128))
 
 pub restore_start : (g : List ℕ) → 0 < length g → restored (get_or g 0 0) 6 (drop 1 g) ≡ group_data g
 unfolding group_data

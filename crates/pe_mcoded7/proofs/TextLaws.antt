@@ -3,13 +3,13 @@
 use Prim.Native.Nat.{ℕ, zero, suc, ◌+◌, ◌-◌, ◌/◌, ◌%◌, min, ◌<◌, ◌≤◌}
 use mathlib.Core.List.{List, [], ◌∷◌, ◌++◌, append-nil}
 use mathlib.Core.Logic.{⊎_elim}
-use mathlib.Core.Path.{◌≡◌, refl, sym, ap, ◌∙◌}
+use mathlib.Core.Path.{◌≡◌, refl, ap, ◌∙◌}
 use native.Mathlib.Nat.{le_refl}
 use native.Mathlib.Omega.{arith}
 use borrow.Author.Tests.{leb-true, leb-false}
 use lib.Dec.{leb}
 use lib.ListN.{length, take, drop, length-append, length-take, length-drop, length-map, drop_of_length-le}
-use lib.Seq.{take_all, take_at, drop_at, drop-drop}
+use lib.Seq.{take_all, take_at, drop_at}
 use Rattle.seven_bit.specs.Parts.{pieces, joined}
 use Rattle.seven_bit.proofs.ReplyLaws.{both}
 use Rattle.pe_mcoded7.specs.Mcoded7.{group_bytes, encoded, groups, restored, group_data, decoded}
@@ -24,31 +24,9 @@ by_groups k P k>0 none some s = go (length s) s (le_refl (length s))
     go (suc n) [] h = none
     go (suc n) (x ∷ t) h = some (x ∷ t) (omega arith) (go n (drop k (x ∷ t)) (omega (arith, k>0, length-drop k (x ∷ t))))
 
--- a group that ends k places on, or with the list: the group, and what follows it
-pub group_is : (k i end : ℕ) (s : List ℕ) → end ≡ i + min k (length s - i) → take (end - i) (drop i s) ≡ take k (drop i s)
-group_is k i end s e =
-    let l : length (drop i s) ≡ length s - i = length-drop i s in
-    ⊎_elim
-    (λ t.
-    let h : k ≤ length s - i = leb-true k (length s - i) t in
-    let n : end - i ≡ k = omega arith in
-    rw n)
-    (λ f.
-    let h : length s - i < k = leb-false k (length s - i) f in
-    take_all (end - i) (drop i s) (omega arith) ∙ sym (take_all k (drop i s) (omega arith)))
-    (both (leb k (length s - i)))
-
-pub after_group : (k i end : ℕ) (s : List ℕ) → end ≡ i + min k (length s - i) → drop end s ≡ drop k (drop i s)
-after_group k i end s e =
-    ⊎_elim
-    (λ t.
-    let h : k ≤ length s - i = leb-true k (length s - i) t in
-    let n : end ≡ i + k = omega arith in
-    rw (n, drop-drop k i s))
-    (λ f.
-    let h : length s - i < k = leb-false k (length s - i) f in
-    drop_of_length-le s {i = end} (omega arith) ∙ sym (drop-drop k i s ∙ drop_of_length-le s {i = i + k} (omega arith)))
-    (both (leb k (length s - i)))
+pub nothing : (s : List ℕ) → length s ≡ 0 → s ≡ []
+nothing [] e = refl
+nothing (x ∷ s) e = absurd (omega arith)
 
 -- a list in two parts, of which the first has k elements, or fewer where nothing follows
 take_front : (k : ℕ) (a b : List ℕ) → length a ≤ k → (length a < k → b ≡ []) → take k (a ++ b) ≡ a
@@ -64,6 +42,24 @@ drop_front k a b l h =
     (λ t. drop_at a b k (let g = leb-true k (length a) t in omega arith))
     (λ f. rw (h (leb-false k (length a) f), append-nil) (drop_of_length-le a l))
     (both (leb k (length a)))
+
+-- A list in two parts, of which the first is the next chunk of k elements.
+pub record Chunk (k : ℕ) (s g rest : List ℕ) : Type 0 where
+  pub whole : s ≡ g ++ rest
+  pub size : length g ≡ min k (length s)
+  pub some : 0 < length s
+
+-- nothing follows a shorter one
+chunk_last : {k : ℕ} {s g rest : List ℕ} → Chunk k s g rest → length g < k → rest ≡ []
+chunk_last {k} {s} {g} {rest} c h =
+    let l : length s ≡ length g + length rest = ap length c.whole ∙ length-append g rest in
+    nothing rest (omega arith)
+
+pub chunk_front : {k : ℕ} {s g rest : List ℕ} → Chunk k s g rest → take k s ≡ g
+chunk_front {k} {s} {g} {rest} c = ap (take k) c.whole ∙ take_front k g rest (omega arith) (chunk_last c)
+
+pub chunk_behind : {k : ℕ} {s g rest : List ℕ} → Chunk k s g rest → drop k s ≡ rest
+chunk_behind {k} {s} {g} {rest} c = ap (drop k) c.whole ∙ drop_front k g rest (omega arith) (chunk_last c)
 
 -- the first group's text, and that of the rest
 pub encoded_none : encoded [] ≡ []
@@ -108,6 +104,9 @@ encoded_groups = record { none = encoded_none; next = encoded_next }
 pub decoded_groups : InGroups 8 group_data decoded
 decoded_groups = record { none = decoded_none; next = decoded_next }
 
+pub chunk_next : {k : ℕ} {one whole : List ℕ → List ℕ} {s g rest : List ℕ} → InGroups k one whole → Chunk k s g rest → whole s ≡ one g ++ whole rest
+chunk_next {k} {one} {whole} {s} {g} {rest} w c = w.next s c.some ∙ rw (chunk_front c, chunk_behind c)
+
 -- where the first group's is of m elements, or of fewer and nothing follows: it, and what is made of the rest
 pub first_of : (k m : ℕ) (one whole : List ℕ → List ℕ) (w : InGroups k one whole) (xs : List ℕ) → 0 < length xs → length (one (take k xs)) ≤ m
     → (length (one (take k xs)) < m → length xs ≤ k) → (take m (whole xs) ≡ one (take k xs)) × (drop m (whole xs) ≡ whole (drop k xs))
@@ -149,12 +148,3 @@ length_decoded =
     (λ s h ih.
     rw (decoded_next s h, length-append, length_group_data)
     (omega (arith, length-take 8 s, length-drop 8 s)))
-
--- the room that is left for what follows a group
-pub room_encoded : (n i end at room : ℕ) → i < n → end ≡ i + min 7 (n - i) → at + (n - i + (n - i + 6) / 7) ≤ room
-    → at + (1 + (end - i)) + (n - end + (n - end + 6) / 7) ≤ room
-room_encoded n i end at room h e l = omega arith
-
-pub room_decoded : (n i end at room : ℕ) → i < n → end ≡ i + min 8 (n - i) → at + (n - i) ≤ room + (n - i + 7) / 8
-    → at + (end - i - 1) + (n - end) ≤ room + (n - end + 7) / 8
-room_decoded n i end at room h e l = omega arith

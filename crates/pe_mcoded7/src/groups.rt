@@ -1,22 +1,13 @@
 // The groups one after the other: written, checked and read.
-ghost use Rattle.std.specs.Prelude.{true, ◌≡◌, ◌+◌, ◌-◌, ◌%◌, ◌^◌, min, ◌<◌, ◌≤◌, length};
+ghost use Rattle.std.specs.Prelude.{ℕ, true, ◌≡◌, ◌+◌, ◌-◌, ◌%◌, ◌^◌, ◌<◌, ◌≤◌, length};
 ghost use Rattle.seven_bit.specs.Parts.{put};
 ghost use Rattle.seven_bit.specs.Reply.{granted};
 ghost use Rattle.seven_bit.specs.SevenBit.{is_seven_bit};
-ghost use Rattle.pe_wire.specs.Wire.{encoded_told};
+ghost use Rattle.pe_wire.specs.Errors.{pe_told};
 ghost use Rattle.pe_mcoded7.specs.Mcoded7.{group_bytes, encoded, groups, group_data, decoded, ask_group, ask_groups};
 
 use pe_wire::error::PeError;
-use pe_wire::wire::Encoded;
 use seven_bit::all_seven_bit;
-
-// Where the group ends that starts at from: size places on, or with the list.
-fn group_end(from: usize, size: usize, len: usize) -> usize
-    requires { from ≤ len }
-    ensures { result ≡ from + min size (len - from) }
-{
-    if len - from < size { len } else { from + size }
-}
 
 // A group's text from at on: the low seven bits of each byte, and before them the flag byte, which takes in the top bits from the last one on.
 fn encode_group(group: &[u8], out: &mut [u8], at: usize)
@@ -24,9 +15,7 @@ fn encode_group(group: &[u8], out: &mut [u8], at: usize)
     ensures { out.new ≡ put out.old at (group_bytes group.now) }
 {
     let mut flags = 0u8;
-    let mut i = group.len();
-    while 0 < i {
-        i -= 1;
+    for i in (0..group.len()).rev() {
         let byte = group[i];
         out[at + 1 + i] = byte % 128;
         flags = flags / 2 + byte / 128 * 64;
@@ -39,13 +28,10 @@ pub(crate) fn encode_into(input: &[u8], out: &mut [u8])
     requires { length (encoded input.now) ≤ length out.old }
     ensures { out.new ≡ put out.old 0 (encoded input.now) }
 {
-    let mut i = 0;
     let mut at = 0;
-    while i < input.len() {
-        let end = group_end(i, 7, input.len());
-        encode_group(&input[i..end], out, at);
-        at += 1 + (end - i);
-        i = end;
+    for group in input.chunks(7) {
+        encode_group(group, out, at);
+        at += 1 + group.len();
     }
 }
 
@@ -54,48 +40,35 @@ fn spare_bits(flags: u8, group_len: usize) -> u8
     requires { (2 ≤ group_len) × (group_len ≤ 8) }
     ensures { result ≡ flags % 2 ^ (8 - group_len) }
 {
-    match group_len {
-        2 => flags % 64,
-        3 => flags % 32,
-        4 => flags % 16,
-        5 => flags % 8,
-        6 => flags % 4,
-        7 => flags % 2,
-        _ => 0,
-    }
+    flags % (1 << (8 - group_len))
 }
 
-// Nothing is written yet: Wrote(0), or why the group is refused.
-fn check_group(group: &[u8]) -> Encoded
+// Is the group as a text may have it?
+#[tactic(auto, unfolding(crate::specs::Mcoded7::ask_group))]
+fn check_group(group: &[u8]) -> Result<(), PeError>
     requires { length group.now ≤ 8 }
-    ensures { encoded_told result ≡ ask_group group.now (granted 0) }
+    ensures { pe_told {A = ℕ} (λ _. 0) result ≡ ask_group group.now (granted 0) }
 {
     if group.len() < 2 {
-        return Encoded::Refused(PeError::BadMcoded7);
+        return Err(PeError::BadMcoded7);
     }
     if !all_seven_bit(group) {
-        return Encoded::Refused(PeError::BadField);
+        return Err(PeError::BadField);
     }
     if spare_bits(group[0], group.len()) != 0 {
-        return Encoded::Refused(PeError::BadMcoded7);
+        return Err(PeError::BadMcoded7);
     }
-    Encoded::Wrote(0)
+    Ok(())
 }
 
 // The same for all groups of a text, in their order.
-pub(crate) fn check(input: &[u8]) -> Encoded
-    ensures { encoded_told result ≡ ask_groups (groups input.now) (granted 0) }
+pub(crate) fn check(input: &[u8]) -> Result<(), PeError>
+    ensures { pe_told {A = ℕ} (λ _. 0) result ≡ ask_groups (groups input.now) (granted 0) }
 {
-    let mut i = 0;
-    while i < input.len() {
-        let end = group_end(i, 8, input.len());
-        let checked = check_group(&input[i..end]);
-        let Encoded::Wrote(_) = checked else {
-            return checked;
-        };
-        i = end;
+    for group in input.chunks(8) {
+        check_group(group)?;
     }
-    Encoded::Wrote(0)
+    Ok(())
 }
 
 // A group's bytes with their top bits, from at on. The flag byte moves up, so that the next bit is always bit 6.
@@ -104,13 +77,9 @@ fn decode_group(group: &[u8], out: &mut [u8], at: usize)
     ensures { out.new ≡ put out.old at (group_data group.now) }
 {
     let mut flags = group[0];
-    let mut to = at;
-    let mut i = 1;
-    while i < group.len() {
-        out[to] = group[i] + flags / 64 * 128;
+    for (i, byte) in group[1..].iter().enumerate() {
+        out[at + i] = byte + flags / 64 * 128;
         flags = flags % 64 * 2;
-        to += 1;
-        i += 1;
     }
 }
 
@@ -119,12 +88,9 @@ pub(crate) fn decode_into(input: &[u8], out: &mut [u8])
     requires { (is_seven_bit input.now ≡ true) × (length (decoded input.now) ≤ length out.old) }
     ensures { out.new ≡ put out.old 0 (decoded input.now) }
 {
-    let mut i = 0;
     let mut at = 0;
-    while i < input.len() {
-        let end = group_end(i, 8, input.len());
-        decode_group(&input[i..end], out, at);
-        at += end - i - 1;
-        i = end;
+    for group in input.chunks(8) {
+        decode_group(group, out, at);
+        at += group.len() - 1;
     }
 }

@@ -2,14 +2,14 @@
 -- Assumes nothing.
 use Prim.Native.Nat.{ℕ, zero, suc, ◌+◌, ◌-◌, ◌*◌, ◌≤◌}
 use mathlib.Core.Bool.{true}
-use mathlib.Core.List.{List, [], ◌∷◌, ◌++◌, append-nil, append_assoc}
+use mathlib.Core.List.{List, ◌∷◌, ◌++◌, append_assoc}
 use mathlib.Core.Path.{◌≡◌, refl, ap, ◌∙◌}
 use native.Mathlib.Numerals.{add-one}
 use native.Mathlib.Omega.{arith}
-use lib.ListN.{length, set, take, drop, replicate, length-append, length-replicate, replicate-append-replicate, drop_of_length-le}
+use lib.ListN.{length, set, take, drop, replicate, length-append}
 use lib.Seq.{drop-drop, length-take-le}
 use Rattle.seven_bit.specs.Parts.{splice, put}
-use Rattle.seven_bit.proofs.PartLaws.{put_one, put_put, put_is, put_front}
+use Rattle.seven_bit.proofs.PartLaws.{put_put, put_is, put_front}
 use Rattle.seven_bit.specs.Reply.{granted}
 use Rattle.pe_slot.specs.Layout.{slot_words}
 use Rattle.pe_reassembler.specs.declared.shape.Shape.{Shape}
@@ -17,20 +17,6 @@ use Rattle.pe_reassembler.specs.Calls.{fresh_peers, fresh, new_call}
 use Rattle.pe_reassembler.specs.Table.{has_rooms, peer_at, numbers_len, rooms_len, peer_words}
 use Rattle.pe_reassembler.proofs.TableClose.{part_back}
 use Rattle.pe_reassembler.proofs.TableLaws.{index_long}
-
--- one word more
-pub zero_next : (w : List ℕ) (i : ℕ) → set (put w 0 (replicate i 0)) i 0 ≡ put w 0 (replicate (i + 1) 0)
-zero_next w i =
-    put_one (put w 0 (replicate i 0)) i 0
-    ∙ put_put w 0 (replicate i 0) (0 ∷ []) i (let l : length (replicate {A = ℕ} i 0) ≡ i = length-replicate i 0 in omega arith)
-    ∙ ap (λ (l : List ℕ). put w 0 l) (replicate-append-replicate i 1 0)
-
-pub zero_all : (w : List ℕ) (i : ℕ) → i ≤ length w → length w ≤ i → put w 0 (replicate i 0) ≡ replicate (length w) 0
-zero_all w i h k =
-    let l : length (replicate {A = ℕ} i 0) ≡ i = length-replicate i 0 in
-    let e : i ≡ length w = omega arith in
-    put_front w (replicate i 0) (omega arith)
-    ∙ rw (drop_of_length-le w {i = length (replicate {A = ℕ} i 0)} (omega arith), append-nil, e)
 
 -- the record of one peer
 pub fresh_one : (w : List ℕ) {z : List ℕ} → length w ≡ peer_words → z ≡ replicate (length w) 0 → set z 1 0x0FFFFFFF ≡ fresh_peers 1
@@ -69,9 +55,6 @@ fresh_step n0 p {numbers} {words} {at} e h f g =
     ∙ splice_put at peer_words numbers words h (ap (λ (w : List ℕ). length w) g ∙ length_fresh 1)
     ∙ rw (f, g) (put_put n0 1 (fresh_peers p) (fresh_peers 1) at q ∙ rw (fresh_next p, add-one p))
 
-pub fresh_all : (n0 : List ℕ) (p n : ℕ) {numbers : List ℕ} → p ≤ n → n ≤ p → numbers ≡ put n0 1 (fresh_peers p) → numbers ≡ put n0 1 (fresh_peers n)
-fresh_all n0 p n h k f = let q : p ≡ n = omega arith in f ∙ rw q
-
 -- behind the clock
 put_second : (xs : List ℕ) (y : ℕ) (ys : List ℕ) → put (set xs 0 y) 1 ys ≡ put xs 0 (y ∷ ys)
 unfolding put
@@ -87,13 +70,9 @@ fresh_clock n0 n m f =
 -- and all of a table
 pub made : (shape : Shape) (numbers index headers arenas : List ℕ) {numbers' zeros : List ℕ} → has_rooms shape numbers index headers arenas ≡ true
     → numbers' ≡ (1 ∷ fresh_peers shape.max_peers) ++ drop (numbers_len shape) numbers
-    → zeros ≡ replicate (length (take (rooms_len shape.fragment_records shape - 0) (drop 0 index))) 0
-    → fresh (granted 0) numbers' (take 0 index ++ (zeros ++ drop (rooms_len shape.fragment_records shape - 0) (drop 0 index)))
-    ≡ new_call shape numbers index headers arenas
+    → zeros ≡ replicate (length (take (rooms_len shape.fragment_records shape) index)) 0
+    → fresh (granted 0) numbers' (zeros ++ drop (rooms_len shape.fragment_records shape) index) ≡ new_call shape numbers index headers arenas
 unfolding new_call
 made shape numbers index headers arenas {numbers'} {zeros} t e f =
-    let k : ℕ = rooms_len shape.fragment_records shape in
-    let z : k - 0 ≡ k = omega arith in
-    let l = (index_long shape numbers index headers arenas t).1 in
-    let g : zeros ≡ replicate k 0 = f ∙ ap (λ (n : ℕ). replicate n 0) (ap (λ (n : ℕ). length (take n index)) z ∙ length-take-le k index l) in
-    rw (t, e, g, z)
+    let l = length-take-le (rooms_len shape.fragment_records shape) index (index_long shape numbers index headers arenas t).1 in
+    rw (t, e, f, l)

@@ -4,7 +4,7 @@ use Prim.Native.Nat.{ℕ, zero, suc, ◌+◌, ◌-◌, ◌*◌, ◌≤◌, ◌<�
 use mathlib.Core.Bool.{Bool, true, false, cond, not, ◌&&◌}
 use mathlib.Core.List.{List}
 use mathlib.Core.Logic.{◌⊎◌, inl, inr}
-use mathlib.Core.Option.{some}
+use Rattle.std.specs.Prelude.{Some}
 use mathlib.Core.Path.{◌≡◌, refl, sym, ap, ◌∙◌}
 use native.Mathlib.Nat.{add-zero}
 use native.Mathlib.Omega.{arith}
@@ -258,7 +258,7 @@ module _ (shape : Shape) (numbers : List ℕ) (h : numbers_len shape ≤ length 
   n₄ = close_open p 3 n₃
 
   abbrev dropped : List ℕ
-  dropped = (drop_at (some p) numbers).numbers
+  dropped = (drop_at (Some p) numbers).numbers
 
   one : Shut open_words (4 * p + 0) 1 numbers n₁
   one = step 0 numbers (omega arith) refl

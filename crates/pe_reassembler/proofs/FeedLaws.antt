@@ -1,10 +1,10 @@
 -- The laws of a feed: what question 30 tells, where a slot's parts lie, and what a slot's answer leaves in the whole memory.
 -- Assumes nothing.
 use Prim.Native.Nat.{ℕ, suc, ◌+◌, ◌-◌, ◌*◌, ◌≤◌, ◌<◌}
-use mathlib.Core.Bool.{Bool, true, false, cond, not, ◌&&◌}
+use mathlib.Core.Bool.{Bool, true, false, cond, not}
 use mathlib.Core.List.{List, ◌++◌}
-use mathlib.Core.Option.{some}
-use mathlib.Core.Path.{◌≡◌, refl, sym, ap, ◌∙◌}
+use Rattle.std.specs.Prelude.{Some}
+use mathlib.Core.Path.{◌≡◌, refl, ap, ◌∙◌}
 use mathlib.Core.Logic.{◌⊎◌, inl, inr}
 use native.Mathlib.Nat.{mul-le-mul}
 use native.Mathlib.Omega.{arith}
@@ -16,16 +16,12 @@ use Rattle.seven_bit.specs.Parts.{part, splice}
 use Rattle.seven_bit.specs.Reply.{Reply, granted, refused}
 use Rattle.seven_bit.proofs.PartLaws.{length_part}
 use Rattle.seven_bit.proofs.ReplyLaws.{both, asked_with, first_granted, and_told}
-use Rattle.midici_core.specs.declared.error.CiError.{CiError}
-use Rattle.midici_core.specs.Errors.{ci_number}
 use Rattle.midici_core.specs.Header.{read_header}
-use Rattle.midici_core.specs.declared.pe_msg.MessageRead.{MessageRead}
-use Rattle.midici_core.specs.Message.{Message, read_message, message_told}
+use Rattle.midici_core.specs.Message.{Message, read_message}
 use Rattle.midici_core.specs.Kinds.{carries_chunk}
 use Rattle.midici_core.proofs.HeaderLaws.{read_long}
 use Rattle.midici_core.proofs.RoundTrip.{within_both, header_unchanged}
-use Rattle.pe_frame.specs.declared.frame.ChunkRead.{ChunkRead}
-use Rattle.pe_frame.specs.Chunk.{Chunk, Fields, read_fields, chunk_told}
+use Rattle.pe_frame.specs.Chunk.{Chunk, Fields, read_fields}
 use Rattle.pe_frame.proofs.RoundTrip.{read_told}
 use Rattle.pe_wire.proofs.RoundTrip.{read_small}
 use Rattle.pe_slot.specs.Slot.{Slot, Verdict, stays, closing, ◌otherwise◌then◌, storing, taking, held, body_length, header_fits, header_agrees, new_header, count_agrees, new_count, after_chunk, passed, judge}
@@ -37,7 +33,7 @@ use Rattle.pe_reassembler.specs.Table.{has_numbers, has_rooms, is_bound, bound_t
 use Rattle.pe_reassembler.specs.Feed.{Memory, memory, FeedLeft, feed_left, next_tick, bind, has_all, lifted, slot_reached, reach, words_part, room_part, feed_call, message_call}
 use Rattle.pe_reassembler.specs.Steps.{is_damaged, noted, in_place, slot_fed}
 use Rattle.pe_reassembler.proofs.TableClose.{part_lent, part_back}
-use Rattle.pe_reassembler.proofs.TableLaws.{Ranges, in_range_law, numbers_long, record_for_below}
+use Rattle.pe_reassembler.proofs.TableLaws.{Ranges, in_range_law, numbers_long, record_for_below, slot_for_below}
 
 -- what question 30 tells
 pub record Lent (shape : Shape) (m : Memory) : Type 0 where
@@ -121,15 +117,6 @@ module _ (words : List ℕ) (peer p s : ℕ) where
       ap (λ (x : List ℕ). bind x peer p) (splice_set (slot_at p s) slot_words 0 numbers words l m tick)
       ∙ bind_splice (set numbers 0 tick) (rw (length-set numbers 0 tick) h) k
 
--- binding keeps the length
-pub length_bind : (numbers : List ℕ) (peer p : ℕ) → length (bind numbers peer p) ≡ length numbers
-unfolding bind
-length_bind numbers peer p = go (bound_to numbers peer p)
-  where
-    go : (b : Bool) → length (cond b numbers (set (set numbers (peer_at p) 1) (peer_at p + 1) peer)) ≡ length numbers
-    go true = refl
-    go false = length-set (set numbers (peer_at p) 1) (peer_at p + 1) peer ∙ length-set numbers (peer_at p) 1
-
 -- no question of a slot's own is answered 31
 abbrev Clear : Verdict → Type 0
 Clear v = is_damaged (told_answer v.answer) ≡ false
@@ -153,17 +140,6 @@ judge_clear H B R s c =
     answered (header_fits H c) (header_agrees s c) (count_agrees s c) (not (eqb c.chunk_num 0)) (not (held c.chunk_num s.pieces))
     (ltb (length s.pieces) R) (leb (body_length s.pieces + length c.property) B) (new_header s c) (new_count s c)
     (after_chunk s c (new_header s c) (new_count s c) true)
-
--- and no refusal of the CI reader is
-pub ci_clear : (e : CiError) → eqb (ci_number e) 31 ≡ false
-ci_clear CiError.Truncated = refl
-ci_clear CiError.NotUniversalSysex = refl
-ci_clear CiError.NotMidiCi = refl
-ci_clear (CiError.UnsupportedSubId2 kind) = refl
-ci_clear CiError.BadLength = refl
-ci_clear CiError.BadField = refl
-ci_clear CiError.BufferTooSmall = refl
-ci_clear CiError.InvalidMuid = refl
 
 -- a whole memory after a slot's answer, then the clock and the binding
 abbrev noting : ℕ → ℕ → ℕ → FeedLeft → FeedLeft
@@ -331,19 +307,12 @@ feed_back shape m p s c now_ms tick at index_at header_at arena_at answer words 
     ) at e))
 
 -- the record that a peer takes lies within the numbers
-pub record_for_in : (shape : Shape) (numbers : List ℕ) (peer p : ℕ) → has_numbers shape numbers ≡ true → record_for shape numbers peer ≡ some p
+pub record_for_in : (shape : Shape) (numbers : List ℕ) (peer p : ℕ) → has_numbers shape numbers ≡ true → record_for shape numbers peer ≡ Some p
     → HasPeer numbers p
 record_for_in shape numbers peer p e f =
     let l = numbers_long shape numbers e in
     let b = record_for_below shape numbers peer p f in
     omega arith
-
--- what the readers answered, taken apart
-pub chunk_as : {r q : ChunkRead} {o : Reply Fields} → chunk_told r ≡ o → r ≡ q → o ≡ chunk_told q
-chunk_as e f = sym e ∙ ap chunk_told f
-
-pub message_as : {r q : MessageRead} {o : Reply Message} → message_told r ≡ o → r ≡ q → o ≡ message_told q
-message_as e f = sym e ∙ ap message_told f
 
 -- the numbers of a chunk that was read are small
 pub read_bounds : (data' : List ℕ) (f : Fields) → read_fields data' ≡ granted f → (f.header_len ≤ 16383) × (f.property_at + f.property_len ≤ 32775)
@@ -353,6 +322,39 @@ read_bounds data' f q =
     let d = read_small _ _ t.len in
     let a = t.at in
     (h, omega arith)
+
+-- where the parts of a slot lie, far below 2^64
+pub record Lies (shape : Shape) (m : Memory) (p s : ℕ) : Type 0 where
+  pub peer : HasPeer m.numbers p
+  pub index : room_at shape.fragment_records p s + shape.fragment_records ≤ length m.index
+  pub headers : room_at shape.header_bytes p s + shape.header_bytes ≤ length m.headers
+  pub arenas : room_at shape.tx_bytes p s + shape.tx_bytes ≤ length m.arenas
+  pub index_small : room_at shape.fragment_records p s ≤ 4194304
+  pub headers_small : room_at shape.header_bytes p s ≤ 4194304
+  pub arenas_small : room_at shape.tx_bytes p s ≤ 4194304
+  pub ranges : Ranges shape
+
+pub lies : (shape : Shape) (m : Memory) (p s : ℕ) → has_all shape m ≡ true → p < shape.max_peers → s < 4 → Lies shape m p s
+lies shape m p s e k l =
+    let a = lent_told shape m e in
+    let r = in_range_law shape m.numbers a.numbers in
+    let n = numbers_long shape m.numbers a.numbers in
+    let i = room_in shape.fragment_records shape.max_peers p s k l in
+    let h = room_in shape.header_bytes shape.max_peers p s k l in
+    let b = room_in shape.tx_bytes shape.max_peers p s k l in
+    record {
+      peer = omega arith;
+      index = omega (arith, i, a.index);
+      headers = omega (arith, h, a.headers);
+      arenas = omega (arith, b, a.arenas);
+      index_small = room_below shape.fragment_records p s (omega arith) l (omega arith);
+      headers_small = room_below shape.header_bytes p s (omega arith) l (omega arith);
+      arenas_small = room_below shape.tx_bytes p s (omega arith) l (omega arith);
+      ranges = r;
+    }
+
+-- where a record and a slot were found, named on functions
+pub ruleset found = (lent_told, record_for_in, record_for_below, slot_for_below)
 
 -- a message that was read has its 13 bytes
 pub message_long : (body : List ℕ) (h : Message) → read_message body ≡ granted h → 13 ≤ length body

@@ -10,7 +10,7 @@ use native.Mathlib.Omega.{arith}
 use borrow.Author.Tests.{ltb-true, ltb-false}
 use lib.Dec.{ltb}
 use lib.ListN.{length, get_or, take, drop, set, take-append-drop, length-drop, length-set}
-use lib.Seq.{drop-append-le, take-append-le, take-set-le, drop-set-lt, drop-set-add, length-take-le, drop_at, drop-drop, get_or-take, get_or-drop}
+use lib.Seq.{take-set-le, drop-set-lt, drop-set-add, length-take-le, drop_at, drop-drop, get_or-take, get_or-drop}
 use Rattle.seven_bit.specs.Parts.{part, splice}
 use Rattle.seven_bit.proofs.PartLaws.{length_splice, part_front}
 use Rattle.seven_bit.proofs.ReplyLaws.{both}

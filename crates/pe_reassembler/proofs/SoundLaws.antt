@@ -5,12 +5,12 @@ use Prim.Native.Nat.{ℕ, ◌*◌, ◌≤◌, ◌<◌}
 use mathlib.Core.Bool.{Bool, true, false, cond, ◌&&◌}
 use mathlib.Core.List.{List}
 use mathlib.Core.Logic.{◌⊎◌, inl, inr}
-use mathlib.Core.Option.{Option, none, some}
+use Rattle.std.specs.Prelude.{Option, None, Some}
 use mathlib.Core.Path.{◌≡◌, refl, ◌∙◌, subst}
 use native.Mathlib.Omega.{arith}
 use borrow.Author.Tests.{le-leb, eqb-true, eqb-false}
 use lib.Dec.{leb, eqb}
-use lib.ListN.{length, get_or, drop, replicate}
+use lib.ListN.{length, drop, replicate}
 use Rattle.seven_bit.specs.Reply.{Reply, granted, refused}
 use Rattle.seven_bit.proofs.ReplyLaws.{both, and_told}
 use Rattle.midici_core.specs.Message.{Message, read_message}
@@ -87,10 +87,10 @@ module _ (shape : Shape) (numbers index : List ℕ) (a : SlotsSound shape number
   unfolding cancel_call
   sound_cancel peer request_id = go (has_numbers shape numbers) refl (is_muid peer) (record_of shape numbers peer) refl
     where
-      in_record_law : (p : ℕ) → has_numbers shape numbers ≡ true → record_of shape numbers peer ≡ some p
+      in_record_law : (p : ℕ) → has_numbers shape numbers ≡ true → record_of shape numbers peer ≡ Some p
           → (o : Option ℕ) → slot_open numbers p request_id ≡ o → SlotsSound shape (cancel_in o p numbers).numbers index
-      in_record_law p h f none g = a
-      in_record_law p h f (some s) g =
+      in_record_law p h f None g = a
+      in_record_law p h f (Some s) g =
           sound_closing p s (numbers_long shape numbers h).1 (record_of_below shape numbers peer p f) (slot_open_below numbers p request_id s g)
 
       go : (b : Bool) → has_numbers shape numbers ≡ b → (d : Bool) (o : Option ℕ) → record_of shape numbers peer ≡ o
@@ -98,21 +98,21 @@ module _ (shape : Shape) (numbers index : List ℕ) (a : SlotsSound shape number
           (on_record (cond b (cond d (granted o) (refused 28 0)) (refused 30 0)) (λ (x : Option ℕ). cancel_at x request_id numbers) numbers).numbers index
       go false h d o f = a
       go true h false o f = a
-      go true h true none f = a
-      go true h true (some p) f = in_record_law p h f (slot_open numbers p request_id) refl
+      go true h true None f = a
+      go true h true (Some p) f = in_record_law p h f (slot_open numbers p request_id) refl
 
   pub sound_drop : (peer : ℕ) → SlotsSound shape (drop_call shape numbers peer).numbers index
   unfolding drop_call
   sound_drop peer = go (has_numbers shape numbers) refl (is_muid peer) (record_of shape numbers peer) refl
     where
       slot : (p : ℕ) → numbers_len shape ≤ length numbers → p < shape.max_peers → (q t : ℕ) → q < shape.max_peers → t < 4 → (q ≡ p) ⊎ (q ≡ p → ⊥)
-          → SlotSound shape.header_bytes shape.tx_bytes shape.fragment_records (words_part (drop_at (some p) numbers).numbers q t)
+          → SlotSound shape.header_bytes shape.tx_bytes shape.fragment_records (words_part (drop_at (Some p) numbers).numbers q t)
           (room_part shape.fragment_records index q t)
       slot p h k q t b g (inl e) =
           rw (e, drop_words shape numbers h p k t g) (closed_if _ _ _ (words_part numbers p t) _ (is_active numbers p t) (a.each p t k g))
       slot p h k q t b g (inr d) = rw (drop_words_other shape numbers h p k q t b g d) (a.each q t b g)
 
-      dropped : (p : ℕ) → has_numbers shape numbers ≡ true → record_of shape numbers peer ≡ some p → SlotsSound shape (drop_at (some p) numbers).numbers index
+      dropped : (p : ℕ) → has_numbers shape numbers ≡ true → record_of shape numbers peer ≡ Some p → SlotsSound shape (drop_at (Some p) numbers).numbers index
       dropped p h f =
           record {
             each = λ (q t : ℕ) (b : q < shape.max_peers) (g : t < 4).
@@ -123,8 +123,8 @@ module _ (shape : Shape) (numbers index : List ℕ) (a : SlotsSound shape number
           → SlotsSound shape (on_record (cond b (cond d (granted o) (refused 28 0)) (refused 30 0)) (λ (x : Option ℕ). drop_at x numbers) numbers).numbers index
       go false h d o f = a
       go true h false o f = a
-      go true h true none f = a
-      go true h true (some p) f = dropped p h f
+      go true h true None f = a
+      go true h true (Some p) f = dropped p h f
 
   pub sound_poll : (now_ms : ℕ) (out_peers out_ids : List ℕ) → SlotsSound shape (poll_call shape numbers now_ms out_peers out_ids).numbers index
   unfolding poll_call
@@ -203,13 +203,13 @@ module _ (shape : Shape) (m : Memory) (peer now_ms : ℕ) (e : has_all shape m �
     where
       in_record_law : (p : ℕ) → p < shape.max_peers → (o : Option ℕ) → slot_for m.numbers p c.request_id ≡ o
           → SlotsSound shape (in_slot o shape m peer c now_ms p).memory.numbers (in_slot o shape m peer c now_ms p).memory.index
-      in_record_law p k none g = a
-      in_record_law p k (some s) g = sound_reach c short named p s k (slot_for_below m.numbers p c.request_id s g)
+      in_record_law p k None g = a
+      in_record_law p k (Some s) g = sound_reach c short named p s k (slot_for_below m.numbers p c.request_id s g)
 
       go : (o : Option ℕ) → record_for shape m.numbers peer ≡ o
           → SlotsSound shape (in_record o shape m peer c now_ms).memory.numbers (in_record o shape m peer c now_ms).memory.index
-      go none f = a
-      go (some p) f = in_record_law p (record_for_below shape m.numbers peer p f) (slot_for m.numbers p c.request_id) refl
+      go None f = a
+      go (Some p) f = in_record_law p (record_for_below shape m.numbers peer p f) (slot_for m.numbers p c.request_id) refl
 
   -- a chunk that is read has a number of 14 bits
   sound_chunk : (data' : List ℕ) → SlotsSound shape (chunk_read (read_fields data') shape m peer data' now_ms).memory.numbers

@@ -1,18 +1,14 @@
 -- `new`, `cancel`, `drop_peer`, `memory_stats` and `reserved_bytes` (document 01, module 8).
 -- Assumes nothing.
-use Rattle.std.specs.Prelude.{ℕ, zero, suc, ◌+◌, ◌*◌, min, Bool, true, false, cond, List, [], ◌∷◌, ◌++◌, leb, length, get_or, set, drop, replicate}
-use Rattle.std.proofs.Math.Option.{Option, none, some}
+use Rattle.std.specs.Prelude.{ℕ, zero, suc, ◌+◌, ◌*◌, min, Bool, true, false, cond, List, [], ◌∷◌, ◌++◌, get_or, set, drop, replicate, Option, Some, None, Result}
 use Rattle.seven_bit.specs.Parts.{part, splice}
 use Rattle.seven_bit.specs.Reply.{Reply, granted, refused, ◌else◌then◌}
-use Rattle.pe_wire.specs.Errors.{pe_refused}
+use Rattle.pe_wire.specs.declared.error.PeError.{PeError}
+use Rattle.pe_wire.specs.Errors.{pe_told}
 use Rattle.pe_slot.specs.Layout.{slot_words, header_len_at, index_len_at, property_bytes_at}
 use Rattle.pe_slot.specs.Feed.{cleared}
 use Rattle.pe_reassembler.specs.declared.shape.Shape.{Shape}
-use Rattle.pe_reassembler.specs.declared.calls.Made.{Made}
-use Rattle.pe_reassembler.specs.declared.calls.PeerFound.{PeerFound}
-use Rattle.pe_reassembler.specs.declared.calls.Cancelled.{Cancelled}
-use Rattle.pe_reassembler.specs.declared.calls.Count.{Count}
-use Rattle.pe_reassembler.specs.declared.calls.Stats.{Stats}
+use Rattle.pe_reassembler.specs.declared.calls.MemoryStats.{MemoryStats}
 use Rattle.pe_reassembler.specs.Table.{in_range, has_numbers, has_rooms, is_muid, peer_at, slot_at, rooms_len, numbers_len, record_of, slot_open, is_active}
 
 -- The answer, and the numbers afterwards.
@@ -45,9 +41,8 @@ new_call shape numbers index headers arenas =
     (replicate (rooms_len shape.fragment_records shape) 0 ++ drop (rooms_len shape.fragment_records shape) index))
     (fresh (refused 30 0) numbers index)
 
-abbrev pub made_told : Made → Reply ℕ
-made_told Made.Done = granted 0
-made_told (Made.Refused e) = pe_refused e
+abbrev pub made_told : Result (Unit {0}) PeError → Reply ℕ
+made_told r = pe_told (λ (done : Unit {0}). 0) r
 
 -- A slot closed in its place.
 unfoldable pub close_at : ℕ → ℕ → List ℕ → List ℕ
@@ -65,27 +60,21 @@ abbrev pub on_record : {A : Type 0} → Reply (Option ℕ) → (Option ℕ → N
 on_record (granted found) next numbers = next found
 on_record (refused number value) next numbers = numbered (refused number value) numbers
 
-abbrev pub peer_found_told : PeerFound → Reply (Option ℕ)
-peer_found_told (PeerFound.At p) = granted (some p)
-peer_found_told PeerFound.Nothing = granted none
-peer_found_told (PeerFound.Refused e) = pe_refused e
-
 -- "Cancel closes the transfer it names"; "without a match answer no"
 abbrev pub cancel_in : Option ℕ → ℕ → List ℕ → Numbered Bool
-cancel_in none p numbers = numbered (granted false) numbers
-cancel_in (some s) p numbers = numbered (granted true) (close_at p s numbers)
+cancel_in None p numbers = numbered (granted false) numbers
+cancel_in (Some s) p numbers = numbered (granted true) (close_at p s numbers)
 
 abbrev pub cancel_at : Option ℕ → ℕ → List ℕ → Numbered Bool
-cancel_at none request_id numbers = numbered (granted false) numbers
-cancel_at (some p) request_id numbers = cancel_in (slot_open numbers p request_id) p numbers
+cancel_at None request_id numbers = numbered (granted false) numbers
+cancel_at (Some p) request_id numbers = cancel_in (slot_open numbers p request_id) p numbers
 
 unfoldable pub cancel_call : Shape → List ℕ → ℕ → ℕ → Numbered Bool
 cancel_call shape numbers peer request_id =
     on_record (find_peer shape numbers peer) (λ (found : Option ℕ). cancel_at found request_id numbers) numbers
 
-abbrev pub cancelled_told : Cancelled → Reply Bool
-cancelled_told (Cancelled.Answer b) = granted b
-cancelled_told (Cancelled.Refused e) = pe_refused e
+abbrev pub cancelled_told : Result Bool PeError → Reply Bool
+cancelled_told r = pe_told (λ (closed : Bool). closed) r
 
 -- "drop all of its console", and its record unbound
 abbrev pub close_open : ℕ → ℕ → List ℕ → List ℕ
@@ -95,17 +84,13 @@ abbrev pub open_count : List ℕ → ℕ → ℕ → ℕ
 open_count numbers p s = cond (is_active numbers p s) 1 0
 
 abbrev pub drop_at : Option ℕ → List ℕ → Numbered ℕ
-drop_at none numbers = numbered (granted 0) numbers
-drop_at (some p) numbers =
+drop_at None numbers = numbered (granted 0) numbers
+drop_at (Some p) numbers =
     numbered (granted (open_count numbers p 0 + open_count numbers p 1 + open_count numbers p 2 + open_count numbers p 3))
     (set (close_open p 3 (close_open p 2 (close_open p 1 (close_open p 0 numbers)))) (peer_at p) 0)
 
 unfoldable pub drop_call : Shape → List ℕ → ℕ → Numbered ℕ
 drop_call shape numbers peer = on_record (find_peer shape numbers peer) (λ (found : Option ℕ). drop_at found numbers) numbers
-
-abbrev pub count_told : Count → Reply ℕ
-count_told (Count.Number n) = granted n
-count_told (Count.Refused e) = pe_refused e
 
 -- "`size_of::<FragmentMeta>()` is 8." What a slot holds: header, body and 8 for each record.
 unfoldable pub slot_bytes : List ℕ → ℕ → ℕ → ℕ
@@ -138,9 +123,11 @@ stats_call shape numbers =
     }))
     (refused 30 0)
 
-abbrev pub stats_told : Stats → Reply Totals
-stats_told (Stats.Totals m) = granted (record { reserved_bytes = m.reserved_bytes; active_bytes = m.active_bytes; active_slots = m.active_slots })
-stats_told (Stats.Refused e) = pe_refused e
+abbrev pub totals_of : MemoryStats → Totals
+totals_of m = record { reserved_bytes = m.reserved_bytes; active_bytes = m.active_bytes; active_slots = m.active_slots }
+
+abbrev pub stats_told : Result MemoryStats PeError → Reply Totals
+stats_told r = pe_told totals_of r
 
 unfoldable pub reserved_call : Shape → Reply ℕ
 reserved_call shape = cond (in_range shape) (granted (reserved_of shape)) (refused 30 0)

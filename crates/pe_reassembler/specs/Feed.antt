@@ -1,7 +1,6 @@
 -- `feed` and the whole-message entry (document 01, module 8 and 'Added').
 -- Assumes nothing.
-use Rattle.std.specs.Prelude.{ℕ, ◌+◌, ◌-◌, ◌^◌, Bool, cond, ◌&&◌, List, leb, ltb, length, get_or, set, drop}
-use Rattle.std.proofs.Math.Option.{Option, none, some}
+use Rattle.std.specs.Prelude.{ℕ, ◌+◌, Bool, cond, ◌&&◌, List, leb, ltb, length, get_or, set, drop, Option, Some, None}
 use Rattle.seven_bit.specs.Parts.{part, splice}
 use Rattle.seven_bit.specs.Reply.{Reply, granted, refused}
 use Rattle.midici_core.specs.Message.{Message, read_message}
@@ -10,7 +9,7 @@ use Rattle.pe_slot.specs.Layout.{slot_words}
 use Rattle.pe_slot.specs.Feed.{Told, SlotLeft, reached_slot}
 use Rattle.pe_slot.specs.Memory.{slot_of, is_sound}
 use Rattle.pe_reassembler.specs.declared.shape.Shape.{Shape}
-use Rattle.pe_reassembler.specs.Table.{has_rooms, is_muid, is_bound, bound_to, peer_at, slot_at, room_at, record_for, slot_for}
+use Rattle.pe_reassembler.specs.Table.{has_rooms, is_muid, bound_to, peer_at, slot_at, room_at, record_for, slot_for}
 
 -- All that is lent for a feed.
 pub record Memory : Type 0 where
@@ -77,12 +76,12 @@ reach shape m peer c now_ms p s =
 
 -- "Own, unbound or idle record? 7. Transfer open with this id, or a free one? 6."
 abbrev pub in_slot : Option ℕ → Shape → Memory → ℕ → Chunk → ℕ → ℕ → FeedLeft
-in_slot none shape m peer c now_ms p = feed_left (refused 6 0) m
-in_slot (some s) shape m peer c now_ms p = reach shape m peer c now_ms p s
+in_slot None shape m peer c now_ms p = feed_left (refused 6 0) m
+in_slot (Some s) shape m peer c now_ms p = reach shape m peer c now_ms p s
 
 abbrev pub in_record : Option ℕ → Shape → Memory → ℕ → Chunk → ℕ → FeedLeft
-in_record none shape m peer c now_ms = feed_left (refused 7 0) m
-in_record (some p) shape m peer c now_ms = in_slot (slot_for m.numbers p c.request_id) shape m peer c now_ms p
+in_record None shape m peer c now_ms = feed_left (refused 7 0) m
+in_record (Some p) shape m peer c now_ms = in_slot (slot_for m.numbers p c.request_id) shape m peer c now_ms p
 
 unfoldable pub at_table : Shape → Memory → ℕ → Chunk → ℕ → FeedLeft
 at_table shape m peer c now_ms = in_record (record_for shape m.numbers peer) shape m peer c now_ms

@@ -1,14 +1,24 @@
 -- What the private steps of a feed say.
 -- Assumes nothing.
-use Rattle.std.specs.Prelude.{ℕ, Bool, true, false, cond, List, eqb, set}
+use Rattle.std.specs.Prelude.{ℕ, ◌≡◌, Bool, false, cond, List, eqb, set}
 use Rattle.seven_bit.specs.Parts.{splice}
 use Rattle.seven_bit.specs.Reply.{Reply, granted, refused}
 use Rattle.pe_frame.specs.Chunk.{Chunk}
 use Rattle.pe_slot.specs.Layout.{slot_words}
 use Rattle.pe_slot.specs.Feed.{Told, SlotLeft, feed_slot}
+use Rattle.pe_reassembler.specs.declared.feed.Rooms.{Rooms}
 use Rattle.pe_reassembler.specs.declared.shape.Shape.{Shape}
 use Rattle.pe_reassembler.specs.Table.{slot_at, room_at}
 use Rattle.pe_reassembler.specs.Feed.{Memory, memory, FeedLeft, feed_left, bind, words_part, room_part}
+
+-- The numbers, and what the rooms lead to; and do two have the same rooms?
+abbrev pub memory_of : List ℕ → Rooms → Memory
+memory_of numbers r = memory numbers r.index.now r.headers.now r.arenas.now r.out_header.now r.out_body.now
+
+abbrev pub HasSameRooms : Rooms → Rooms → Type 0
+HasSameRooms r q =
+    (r.index.ghost_name ≡ q.index.ghost_name) × (r.headers.ghost_name ≡ q.headers.ghost_name) × (r.arenas.ghost_name ≡ q.arenas.ghost_name)
+    × (r.out_header.ghost_name ≡ q.out_header.ghost_name) × (r.out_body.ghost_name ≡ q.out_body.ghost_name)
 
 -- What the slot left, in its place; the clock and the binding as they were.
 abbrev pub in_place : Shape → Memory → ℕ → ℕ → SlotLeft → FeedLeft
@@ -37,8 +47,3 @@ is_damaged (refused number value) = eqb number 31
 -- The clock and the binding, which only a damaged slot leaves as they were.
 abbrev pub noted : Reply Told → List ℕ → ℕ → ℕ → ℕ → List ℕ
 noted answer numbers tick peer p = cond (is_damaged answer) numbers (bind (set numbers 0 tick) peer p)
-
--- Is a reader's answer a refusal?
-abbrev pub is_refused : {A : Type 0} → Reply A → Bool
-is_refused (granted a) = false
-is_refused (refused number value) = true

@@ -1,10 +1,8 @@
 -- The lent memory of a reassembler (document 01's table), and the questions under **Every table call** and **Table**.
 -- Assumes nothing.
-use Rattle.std.specs.Prelude.{ℕ, zero, suc, ◌+◌, ◌*◌, ◌≤◌, ◌<◌, Bool, true, false, cond, not, ◌&&◌, List, [], ◌∷◌, ◌++◌, leb, eqb, length, get_or}
-use Rattle.std.proofs.Math.Option.{Option, none, some}
+use Rattle.std.specs.Prelude.{ℕ, zero, suc, ◌+◌, ◌*◌, ◌≤◌, ◌<◌, Bool, cond, not, ◌&&◌, List, [], ◌∷◌, ◌++◌, leb, eqb, length, get_or, Option, Some, None}
 use Rattle.pe_slot.specs.Layout.{slot_words, request_id_at}
 use Rattle.pe_reassembler.specs.declared.shape.Shape.{Shape}
-use Rattle.pe_reassembler.specs.declared.table.Place.{Place}
 
 -- "A table has a shape: n consoles (0 to 16), four transfers each, header room H (0 to 4,096), body room B (0 to 65,536), R frame records (0 to 2,048)."
 unfoldable pub in_range : Shape → Bool
@@ -26,6 +24,10 @@ slot_at p s = 3 + peer_words * p + slot_words * s
 
 abbrev pub numbers_len : Shape → ℕ
 numbers_len shape = peer_at shape.max_peers
+
+-- The records of n peers lie in the numbers.
+abbrev pub HasPeers : List ℕ → ℕ → Type 0
+HasPeers numbers n = (n ≤ 16) × (peer_at n ≤ length numbers)
 
 -- Record p lies in the numbers that are lent, and slot s of it.
 abbrev pub HasPeer : List ℕ → ℕ → Type 0
@@ -74,15 +76,15 @@ has_id numbers request_id p s = is_active numbers p s && eqb (get_or numbers (sl
 
 -- The first of the k places from i on that a test takes.
 unfoldable pub first_from : (ℕ → Bool) → ℕ → ℕ → Option ℕ
-first_from test i zero = none
-first_from test i (suc k) = cond (test i) (some i) (first_from test (suc i) k)
+first_from test i zero = None
+first_from test i (suc k) = cond (test i) (Some i) (first_from test (suc i) k)
 
 abbrev pub first : (ℕ → Bool) → ℕ → Option ℕ
 first test n = first_from test 0 n
 
 abbrev pub or_else : Option ℕ → Option ℕ → Option ℕ
-or_else (some i) other = some i
-or_else none other = other
+or_else (Some i) other = Some i
+or_else None other = other
 
 -- "A console takes the record bound to it (0FFFFFFF like any other), else the first unbound, else the first with nothing open"
 unfoldable pub record_of : Shape → List ℕ → ℕ → Option ℕ
@@ -107,7 +109,3 @@ rows_from test row p s zero = []
 rows_from test row p s (suc k) =
     cond (test p s) (row p s ∷ []) []
     ++ cond (leb 3 s) (rows_from test row (p + 1) 0 k) (rows_from test row p (s + 1) k)
-
-abbrev pub place_told : Place → Option ℕ
-place_told (Place.At i) = some i
-place_told Place.Nothing = none

@@ -3,7 +3,7 @@
 use Prim.Native.Nat.{ℕ, zero, suc, ◌+◌, ◌<◌, ◌≤◌}
 use mathlib.Core.Bool.{Bool, true, false, cond}
 use mathlib.Core.List.{List, [], ◌∷◌, map}
-use mathlib.Core.Option.{Option, none, some}
+use Rattle.std.specs.Prelude.{Option, None, Some}
 use mathlib.Core.Path.{◌≡◌, refl, sym, ap, ap₂, ◌∙◌, subst}
 use native.Mathlib.Nat.{add-zero, zero-add}
 use native.Mathlib.Omega.{arith}
@@ -58,18 +58,18 @@ module _ {A : Type 0} where
 
 -- the first place of the list, from i on
 abbrev from : ℕ → Option ℕ → Option ℕ
-from i none = none
-from i (some j) = some (i + j)
+from i None = None
+from i (Some j) = Some (i + j)
 
 from_up : (i : ℕ) (o : Option ℕ) → from (suc i) o ≡ from i (up o)
-from_up i none = refl
-from_up i (some j) =
+from_up i None = refl
+from_up i (Some j) =
     let e : suc i + j ≡ i + suc j = omega arith in
-    ap (λ (x : ℕ). some x) e
+    ap (λ (x : ℕ). Some x) e
 
 from_start : (o : Option ℕ) → from 0 o ≡ o
-from_start none = refl
-from_start (some j) = ap (λ (x : ℕ). some x) (zero-add j)
+from_start None = refl
+from_start (Some j) = ap (λ (x : ℕ). Some x) (zero-add j)
 
 module _ {A : Type 0} (test : A → Bool) where
   -- a search by place is the search in the list
@@ -79,32 +79,32 @@ module _ {A : Type 0} (test : A → Bool) where
   search_from f ask i (suc k) h =
       rw (h i (omega arith), search_from f ask (suc i) k (λ p l. h p (omega arith))) (go (test (f i)))
     where
-      go : (b : Bool) → cond b (some i) (from (suc i) (place test (tab f (suc i) k))) ≡ from i (cond b (some 0) (up (place test (tab f (suc i) k))))
-      go true = ap (λ (x : ℕ). some x) (sym (add-zero i))
+      go : (b : Bool) → cond b (Some i) (from (suc i) (place test (tab f (suc i) k))) ≡ from i (cond b (Some 0) (up (place test (tab f (suc i) k))))
+      go true = ap (λ (x : ℕ). Some x) (sym (add-zero i))
       go false = from_up i (place test (tab f (suc i) k))
 
   pub search : (f : ℕ → A) (ask : ℕ → Bool) (k : ℕ) → ((p : ℕ) → p < k → ask p ≡ test (f p)) → first ask k ≡ place test (tab f 0 k)
   search f ask k h = search_from f ask 0 k (λ p l. h p (omega arith)) ∙ from_start (place test (tab f 0 k))
 
   -- what the first place's change is
-  pub first_at : (g : A → A) (d : A) (l : List A) (i : ℕ) → place test l ≡ some i → on_first test g l ≡ set l i (g (get_or l i d))
+  pub first_at : (g : A → A) (d : A) (l : List A) (i : ℕ) → place test l ≡ Some i → on_first test g l ≡ set l i (g (get_or l i d))
   first_at g d [] i e = cc
   first_at g d (x ∷ l) i e = go (test x) (place test l) refl e (first_at g d l)
     where
-      go : (b : Bool) (o : Option ℕ) → place test l ≡ o → cond b (some 0) (up o) ≡ some i
-          → ((j : ℕ) → place test l ≡ some j → on_first test g l ≡ set l j (g (get_or l j d)))
+      go : (b : Bool) (o : Option ℕ) → place test l ≡ o → cond b (Some 0) (up o) ≡ Some i
+          → ((j : ℕ) → place test l ≡ Some j → on_first test g l ≡ set l j (g (get_or l j d)))
           → cond b (g x ∷ l) (x ∷ on_first test g l) ≡ set (x ∷ l) i (g (get_or (x ∷ l) i d))
       go true o w q r = subst (λ (j : ℕ). g x ∷ l ≡ set (x ∷ l) j (g (get_or (x ∷ l) j d))) (let z : 0 ≡ i = cc in z) refl
-      go false none w q r = cc
-      go false (some j) w q r =
+      go false None w q r = cc
+      go false (Some j) w q r =
           subst (λ (k : ℕ). x ∷ on_first test g l ≡ set (x ∷ l) k (g (get_or (x ∷ l) k d))) (let z : suc j ≡ i = cc in z) (ap (λ (m : List A). x ∷ m) (r j w))
 
-  pub first_none : (g : A → A) (l : List A) → place test l ≡ none → on_first test g l ≡ l
+  pub first_none : (g : A → A) (l : List A) → place test l ≡ None → on_first test g l ≡ l
   first_none g [] e = refl
   first_none g (x ∷ l) e = go (test x) (place test l) refl e (first_none g l)
     where
-      go : (b : Bool) (o : Option ℕ) → place test l ≡ o → cond b (some 0) (up o) ≡ none
-          → (place test l ≡ none → on_first test g l ≡ l) → cond b (g x ∷ l) (x ∷ on_first test g l) ≡ x ∷ l
+      go : (b : Bool) (o : Option ℕ) → place test l ≡ o → cond b (Some 0) (up o) ≡ None
+          → (place test l ≡ None → on_first test g l ≡ l) → cond b (g x ∷ l) (x ∷ on_first test g l) ≡ x ∷ l
       go true o w q r = cc
-      go false none w q r = ap (λ (m : List A). x ∷ m) (r w)
-      go false (some j) w q r = cc
+      go false None w q r = ap (λ (m : List A). x ∷ m) (r w)
+      go false (Some j) w q r = cc

@@ -4,7 +4,7 @@ use Prim.Native.Nat.{◌<◌}
 use mathlib.Core.Bool.{Bool, true, false}
 use mathlib.Core.List.{List, [], ◌∷◌, ◌++◌}
 use mathlib.Core.Logic.{◌⊎◌, inl, inr}
-use mathlib.Core.Option.{none, some}
+use Rattle.std.specs.Prelude.{None, Some}
 use mathlib.Core.Path.{◌≡◌, refl, sym, ap, ◌∙◌, subst}
 use lib.ListN.{length, length-append, get_or, set}
 use lib.Seq.{get_or-append_seam, set-append_seam}
@@ -40,7 +40,7 @@ module _ {A : Type 0} (test : A → Bool) where
             fails = (a, s.fails);
           })
 
-  pub place_absent : (l : List A) → NoneOf test l → place test l ≡ none
+  pub place_absent : (l : List A) → NoneOf test l → place test l ≡ None
   place_absent [] a = refl
   place_absent (x ∷ l) a = rw (a.0, place_absent l a.1)
 
@@ -50,10 +50,10 @@ module _ {A : Type 0} (test : A → Bool) where
 
 -- the list by its parts
 module _ {A : Type 0} {test : A → Bool} {l : List A} (s : Split test l) where
-  pub split_place : place test l ≡ some (length s.before)
+  pub split_place : place test l ≡ Some (length s.before)
   split_place = ap (place test) s.parts ∙ go s.before s.fails
     where
-      go : (xs : List A) → NoneOf test xs → place test (xs ++ s.hit ∷ s.after) ≡ some (length xs)
+      go : (xs : List A) → NoneOf test xs → place test (xs ++ s.hit ∷ s.after) ≡ Some (length xs)
       go [] a = rw s.passes
       go (x ∷ xs) a = rw (a.0, go xs a.1)
 

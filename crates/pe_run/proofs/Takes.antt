@@ -5,6 +5,7 @@ use mathlib.Core.Bool.{Bool, true, false, not, ◌&&◌, ◌||◌}
 use mathlib.Core.List.{List, [], ◌∷◌, ◌++◌}
 use mathlib.Core.Logic.{◌⊎◌, inl, inr}
 use mathlib.Core.Option.{Option, none, some}
+use Rattle.std.specs.Prelude.{Some, None}
 use mathlib.Core.Path.{◌≡◌, refl, sym, ap, ap₂, ◌∙◌, subst}
 use native.Mathlib.Omega.{arith}
 use borrow.Author.Tests.{le-ltb, le-leb, not-true}
@@ -55,18 +56,18 @@ arrive_fifth shape peer b c now_ms h e =
 
 -- ---- what the value makes of a chunk
 module _ (shape : Shape) (v : Value) (peer : ℕ) (c : Chunk) (now_ms : ℕ) where
-  takes_full : choose peer v.recs ≡ none → takes shape v peer c now_ms ≡ record { value = v; answer = refused 7 0 }
+  takes_full : choose peer v.recs ≡ None → takes shape v peer c now_ms ≡ record { value = v; answer = refused 7 0 }
   unfolding takes take_at
   takes_full e = ap (take_at shape v peer c now_ms) e
 
-  module _ {test : Rec → Bool} (s : Split test v.recs) (chosen : choose peer v.recs ≡ some (length s.before)) where
+  module _ {test : Rec → Bool} (s : Split test v.recs) (chosen : choose peer v.recs ≡ Some (length s.before)) where
     takes_in : takes shape v peer c now_ms ≡ take_rec shape v peer c now_ms (length s.before) s.hit (choose_cell c.request_id s.hit.cells)
     unfolding takes take_at
     takes_in =
         ap (take_at shape v peer c now_ms) chosen
         ∙ ap (λ (r : Rec). take_rec shape v peer c now_ms (length s.before) r (choose_cell c.request_id r.cells)) (split_get_d s no_rec)
 
-    takes_fifth : choose_cell c.request_id s.hit.cells ≡ none → takes shape v peer c now_ms ≡ record { value = v; answer = refused 6 0 }
+    takes_fifth : choose_cell c.request_id s.hit.cells ≡ None → takes shape v peer c now_ms ≡ record { value = v; answer = refused 6 0 }
     unfolding take_rec
     takes_fifth e = takes_in ∙ ap (take_rec shape v peer c now_ms (length s.before) s.hit) e
 
@@ -82,7 +83,7 @@ module _ (shape : Shape) (v : Value) (peer : ℕ) (c : Chunk) (now_ms : ℕ) whe
         answer = j.answer;
       }
 
-      takes_at : choose_cell c.request_id s.hit.cells ≡ some (length u.before)
+      takes_at : choose_cell c.request_id s.hit.cells ≡ Some (length u.before)
           → takes shape v peer c now_ms ≡ taking (judging u.hit.state)
       unfolding take_rec take_cell
       takes_at e =
@@ -144,10 +145,10 @@ module _ (shape : Shape) {v : Value} {b : Clocked} (rel : Rel shape.max_peers v 
       → arrives shape b peer c now_ms ≡ record { left = b; answer = refused number 0 } → Goal
   refused_both number e f = rw (e, f) (record { rel = rel; answer_is = refl })
 
-  module _ {test : Rec → Bool} (s : Split test v.recs) (chosen : choose peer v.recs ≡ some (length s.before))
+  module _ {test : Rec → Bool} (s : Split test v.recs) (chosen : choose peer v.recs ≡ Some (length s.before))
       (before : Apart peer s.before) (behind : Apart peer s.after) where
     -- the chosen cell has what the model has
-    judged_both : {taken : Cell → Bool} (u : Split taken s.hit.cells) → choose_cell c.request_id s.hit.cells ≡ some (length u.before)
+    judged_both : {taken : Cell → Bool} (u : Split taken s.hit.cells) → choose_cell c.request_id s.hit.cells ≡ Some (length u.before)
         → Perm (rest s u peer) (without peer c.request_id b.model)
         → arrives shape b peer c now_ms ≡ arrived peer c.request_id b (judged_by b.clock u.hit.state) → Goal
     judged_both u e p arr = rw (
@@ -179,7 +180,7 @@ module _ (shape : Shape) {v : Value} {b : Clocked} (rel : Rel shape.max_peers v 
             (here_open s u)
 
   -- a record with nothing open, and none is the peer's own
-  idle_both : {test : Rec → Bool} (s : Split test v.recs) → choose peer v.recs ≡ some (length s.before) → Apart peer v.recs → is_idle s.hit ≡ true
+  idle_both : {test : Rec → Bool} (s : Split test v.recs) → choose peer v.recs ≡ Some (length s.before) → Apart peer v.recs → is_idle s.hit ≡ true
       → Goal
   idle_both s chosen apart idle =
       let i = idle_split s.hit.cells idle (split_hit s FourCells rel.fours) in
@@ -201,7 +202,7 @@ module _ (shape : Shape) {v : Value} {b : Clocked} (rel : Rel shape.max_peers v 
   own_both : Split (is_own peer) v.recs → Goal
   own_both s = ids (view (has_id c.request_id) s.hit.cells)
     where
-      chosen : choose peer v.recs ≡ some (length s.before)
+      chosen : choose peer v.recs ≡ Some (length s.before)
       chosen = rw (split_place s)
 
       behind : Apart peer s.after

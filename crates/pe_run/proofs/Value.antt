@@ -4,6 +4,7 @@ use Prim.Native.Nat.{ℕ, zero, suc, ◌+◌, ◌-◌}
 use mathlib.Core.Bool.{Bool, true, false, cond, not, ◌&&◌, ◌||◌}
 use mathlib.Core.List.{List, [], ◌∷◌, ◌++◌, map}
 use mathlib.Core.Option.{Option, none, some}
+use Rattle.std.specs.Prelude.{Option as SearchResult, Some, None}
 use lib.Dec.{leb, eqb}
 use lib.ListN.{get_or, set}
 use Rattle.seven_bit.specs.Reply.{Reply, refused}
@@ -67,14 +68,17 @@ no_cell = record { request_id = 0; state = none }
 abbrev pub no_rec : Rec
 no_rec = record { bound = false; muid = 0x0FFFFFFF; cells = no_cell ∷ no_cell ∷ no_cell ∷ no_cell ∷ [] }
 
--- ---- the first place whose element a test takes
-abbrev pub up : Option ℕ → Option ℕ
-up none = none
-up (some i) = some (suc i)
+-- ---- the first place whose element a test takes, as the code's searches tell it
+abbrev pub Place : Type 0
+Place = SearchResult ℕ
 
-abbrev pub place : {A : Type 0} → (A → Bool) → List A → Option ℕ
-place test [] = none
-place test (x ∷ xs) = cond (test x) (some 0) (up (place test xs))
+abbrev pub up : Place → Place
+up None = None
+up (Some i) = Some (suc i)
+
+abbrev pub place : {A : Type 0} → (A → Bool) → List A → Place
+place test [] = None
+place test (x ∷ xs) = cond (test x) (Some 0) (up (place test xs))
 
 abbrev pub every : {A : Type 0} → (A → Bool) → List A → Bool
 every test [] = true
@@ -96,11 +100,11 @@ abbrev pub is_idle : Rec → Bool
 is_idle r = every is_free r.cells
 
 -- the record bound to it, else the first unbound, else the first with nothing open
-abbrev pub choose : ℕ → List Rec → Option ℕ
+abbrev pub choose : ℕ → List Rec → Place
 choose peer recs = or_else (place (is_own peer) recs) (or_else (place is_unbound recs) (place is_idle recs))
 
 -- the cell open with the id, else the first free one
-abbrev pub choose_cell : ℕ → List Cell → Option ℕ
+abbrev pub choose_cell : ℕ → List Cell → Place
 choose_cell request_id cells = or_else (place (has_id request_id) cells) (place is_free cells)
 
 -- ---- what is open, by place
@@ -139,13 +143,13 @@ take_cell shape v peer c now_ms p r s =
       answer = j.answer;
     }
 
-unfoldable pub take_rec : Shape → Value → ℕ → Chunk → ℕ → ℕ → Rec → Option ℕ → Taken
-take_rec shape v peer c now_ms p r none = record { value = v; answer = refused 6 0 }
-take_rec shape v peer c now_ms p r (some s) = take_cell shape v peer c now_ms p r s
+unfoldable pub take_rec : Shape → Value → ℕ → Chunk → ℕ → ℕ → Rec → Place → Taken
+take_rec shape v peer c now_ms p r None = record { value = v; answer = refused 6 0 }
+take_rec shape v peer c now_ms p r (Some s) = take_cell shape v peer c now_ms p r s
 
-unfoldable pub take_at : Shape → Value → ℕ → Chunk → ℕ → Option ℕ → Taken
-take_at shape v peer c now_ms none = record { value = v; answer = refused 7 0 }
-take_at shape v peer c now_ms (some p) = let r = get_or v.recs p no_rec in take_rec shape v peer c now_ms p r (choose_cell c.request_id r.cells)
+unfoldable pub take_at : Shape → Value → ℕ → Chunk → ℕ → Place → Taken
+take_at shape v peer c now_ms None = record { value = v; answer = refused 7 0 }
+take_at shape v peer c now_ms (Some p) = let r = get_or v.recs p no_rec in take_rec shape v peer c now_ms p r (choose_cell c.request_id r.cells)
 
 unfoldable pub takes : Shape → Value → ℕ → Chunk → ℕ → Taken
 takes shape v peer c now_ms = take_at shape v peer c now_ms (choose peer v.recs)

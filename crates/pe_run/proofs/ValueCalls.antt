@@ -3,7 +3,7 @@
 use Prim.Native.Nat.{ℕ, suc, ◌+◌, ◌<◌}
 use mathlib.Core.Bool.{Bool, true, false, cond, not, ◌||◌}
 use mathlib.Core.List.{List, [], ◌∷◌, map}
-use mathlib.Core.Option.{Option, none, some}
+use Rattle.std.specs.Prelude.{Option, None, Some, is_none}
 use mathlib.Core.Path.{◌≡◌, refl, sym, ap, ◌∙◌, subst}
 use native.Mathlib.Omega.{arith}
 use lib.ListN.{length, get_or, set}
@@ -17,7 +17,6 @@ use Rattle.pe_reassembler.specs.Calls.{Numbered, numbered, close_at, cancel_in, 
 use Rattle.pe_reassembler.proofs.TableLaws.{numbers_long, record_of_below, slot_open_below}
 use Rattle.pe_reassembler.proofs.EffectsClose.{close_words, close_words_other, close_peer, close_clock, close_length, drop_words, drop_words_other, drop_bound, drop_muid_kept, drop_peer_other, drop_clock, drop-length}
 use Rattle.pe_run.specs.Lists.{tally}
-use Rattle.pe_run.specs.Model.{is_none}
 use Rattle.pe_run.specs.Run.{Table, renumbered, LongFor}
 use Rattle.pe_reassembler.specs.declared.shape.Shape.{Shape}
 use Rattle.pe_run.proofs.Ahead.{numbers_asked}
@@ -32,31 +31,31 @@ some_is : (test : Cell → Bool) (cells : List Cell) → some_cell test cells �
 some_is test [] = refl
 some_is test (c ∷ cells) = rw (some_is test cells) (go (test c) (place test cells))
   where
-    go : (b : Bool) (o : Option ℕ) → (b || not (is_none o)) ≡ not (is_none (cond b (some 0) (up o)))
+    go : (b : Bool) (o : Option ℕ) → (b || not (is_none o)) ≡ not (is_none (cond b (Some 0) (up o)))
     go true o = refl
-    go false none = refl
-    go false (some i) = refl
+    go false None = refl
+    go false (Some i) = refl
 
 -- what is told of the first record that a test takes
 module _ {B : Type 0} (test : Rec → Bool) (f : Rec → B) (g : List Rec → B) (turn : (r : Rec) (l : List Rec) → g (r ∷ l) ≡ cond (test r) (f r) (g l)) where
-  pub told_at : (l : List Rec) (p : ℕ) → place test l ≡ some p → g l ≡ f (get_or l p no_rec)
+  pub told_at : (l : List Rec) (p : ℕ) → place test l ≡ Some p → g l ≡ f (get_or l p no_rec)
   told_at [] p e = cc
   told_at (r ∷ l) p e = turn r l ∙ go (test r) (place test l) refl e (told_at l)
     where
-      go : (b : Bool) (o : Option ℕ) → place test l ≡ o → cond b (some 0) (up o) ≡ some p → ((i : ℕ) → place test l ≡ some i → g l ≡ f (get_or l i no_rec))
+      go : (b : Bool) (o : Option ℕ) → place test l ≡ o → cond b (Some 0) (up o) ≡ Some p → ((i : ℕ) → place test l ≡ Some i → g l ≡ f (get_or l i no_rec))
           → cond b (f r) (g l) ≡ f (get_or (r ∷ l) p no_rec)
       go true o w q h = subst (λ (i : ℕ). f r ≡ f (get_or (r ∷ l) i no_rec)) (let z : 0 ≡ p = cc in z) refl
-      go false none w q h = cc
-      go false (some i) w q h = subst (λ (k : ℕ). g l ≡ f (get_or (r ∷ l) k no_rec)) (let z : suc i ≡ p = cc in z) (h i w)
+      go false None w q h = cc
+      go false (Some i) w q h = subst (λ (k : ℕ). g l ≡ f (get_or (r ∷ l) k no_rec)) (let z : suc i ≡ p = cc in z) (h i w)
 
-  pub told_none : (l : List Rec) → place test l ≡ none → g l ≡ g []
+  pub told_none : (l : List Rec) → place test l ≡ None → g l ≡ g []
   told_none [] e = refl
   told_none (r ∷ l) e = turn r l ∙ go (test r) (place test l) refl e (told_none l)
     where
-      go : (b : Bool) (o : Option ℕ) → place test l ≡ o → cond b (some 0) (up o) ≡ none → (place test l ≡ none → g l ≡ g []) → cond b (f r) (g l) ≡ g []
+      go : (b : Bool) (o : Option ℕ) → place test l ≡ o → cond b (Some 0) (up o) ≡ None → (place test l ≡ None → g l ≡ g []) → cond b (f r) (g l) ≡ g []
       go true o w q h = cc
-      go false none w q h = h w
-      go false (some i) w q h = cc
+      go false None w q h = h w
+      go false (Some i) w q h = cc
 
 -- ---- numbers in the place of others
 module _ (shape : Shape) (t : Table) (numbers' : List ℕ) where
@@ -106,7 +105,7 @@ module _ (shape : Shape) (t : Table) (peer request_id : ℕ) (ok : LongFor shape
   abbrev change : Rec → Rec
   change r = with_cells r (on_first (has_id request_id) shut r.cells)
 
-  module _ (p : ℕ) (own : place (is_own peer) recs ≡ some p) (hp : p < shape.max_peers) where
+  module _ (p : ℕ) (own : place (is_own peer) recs ≡ Some p) (hp : p < shape.max_peers) where
     changed : {cells : List Cell} → on_first (has_id request_id) shut (rec_at shape t p).cells ≡ cells
         → on_first (is_own peer) change recs ≡ set recs p (with_cells (rec_at shape t p) cells)
     changed e =
@@ -121,8 +120,8 @@ module _ (shape : Shape) (t : Table) (peer request_id : ℕ) (ok : LongFor shape
 
     cancel_in_law : (o : Option ℕ) → slot_open t.numbers p request_id ≡ o → CancelValue shape t peer request_id (cancel_in o p t.numbers)
     unfolding cancelled value_of
-    cancel_in_law none e =
-        let none_there : place (has_id request_id) (rec_at shape t p).cells ≡ none = sym (slot_open_is shape t p request_id) ∙ e in
+    cancel_in_law None e =
+        let none_there : place (has_id request_id) (rec_at shape t p).cells ≡ None = sym (slot_open_is shape t p request_id) ∙ e in
         let same : set recs p (rec_at shape t p) ≡ recs =
         ap (λ (r : Rec). set recs p r) (sym (rec_at_law shape t shape.max_peers p hp)) ∙ set-get_or recs p no_rec in
         record {
@@ -130,8 +129,8 @@ module _ (shape : Shape) (t : Table) (peer request_id : ℕ) (ok : LongFor shape
           answer_is = ap granted (sym (named ∙ some_is (has_id request_id) (rec_at shape t p).cells ∙ ap (λ (o : Option ℕ). not (is_none o)) none_there));
           long = ok;
         }
-    cancel_in_law (some s) e =
-        let there : place (has_id request_id) (rec_at shape t p).cells ≡ some s = sym (slot_open_is shape t p request_id) ∙ e in
+    cancel_in_law (Some s) e =
+        let there : place (has_id request_id) (rec_at shape t p).cells ≡ Some s = sym (slot_open_is shape t p request_id) ∙ e in
         let hs = slot_open_below t.numbers p request_id s e in
         let numbers' = close_at p s t.numbers in
         let new = renumbered t numbers' in
@@ -156,8 +155,8 @@ module _ (shape : Shape) (t : Table) (peer request_id : ℕ) (ok : LongFor shape
 
   cancel_at_law : (o : Option ℕ) → record_of shape t.numbers peer ≡ o → CancelValue shape t peer request_id (cancel_at o request_id t.numbers)
   unfolding cancelled value_of
-  cancel_at_law none e =
-      let nobody : place (is_own peer) recs ≡ none = sym (record_of_is shape t peer) ∙ e in
+  cancel_at_law None e =
+      let nobody : place (is_own peer) recs ≡ None = sym (record_of_is shape t peer) ∙ e in
       record {
         value_is = ap (with_recs (value_of shape t)) (sym (first_none (is_own peer) change recs nobody));
         answer_is =
@@ -165,7 +164,7 @@ module _ (shape : Shape) (t : Table) (peer request_id : ℕ) (ok : LongFor shape
             (λ r l. refl) recs nobody));
         long = ok;
       }
-  cancel_at_law (some p) e =
+  cancel_at_law (Some p) e =
       cancel_in_law p (sym (record_of_is shape t peer) ∙ e) (record_of_below shape t.numbers peer p e) (slot_open t.numbers p request_id) refl
 
   pub cancel_value : is_muid peer ≡ true → CancelValue shape t peer request_id (cancel_call shape t.numbers peer request_id)
@@ -221,8 +220,8 @@ rec_dropped shape t t' p e f g = rec_is shape t' p e f g
 module _ (shape : Shape) (t : Table) (peer : ℕ) (ok : LongFor shape t) where
   drop_at_law : (o : Option ℕ) → record_of shape t.numbers peer ≡ o → DropValue shape t peer (drop_at o t.numbers)
   unfolding dropped value_of
-  drop_at_law none e =
-      let nobody : place (is_own peer) (recs_from shape t 0 shape.max_peers) ≡ none = sym (record_of_is shape t peer) ∙ e in
+  drop_at_law None e =
+      let nobody : place (is_own peer) (recs_from shape t 0 shape.max_peers) ≡ None = sym (record_of_is shape t peer) ∙ e in
       record {
         value_is = ap (with_recs (value_of shape t)) (sym (first_none (is_own peer) drop_rec (recs_from shape t 0 shape.max_peers) nobody));
         answer_is =
@@ -230,10 +229,10 @@ module _ (shape : Shape) (t : Table) (peer : ℕ) (ok : LongFor shape t) where
             (recs_from shape t 0 shape.max_peers) nobody));
         long = ok;
       }
-  drop_at_law (some p) e =
-      let own : place (is_own peer) (recs_from shape t 0 shape.max_peers) ≡ some p = sym (record_of_is shape t peer) ∙ e in
+  drop_at_law (Some p) e =
+      let own : place (is_own peer) (recs_from shape t 0 shape.max_peers) ≡ Some p = sym (record_of_is shape t peer) ∙ e in
       let hp = record_of_below shape t.numbers peer p e in
-      let numbers' = (drop_at (some p) t.numbers).numbers in
+      let numbers' = (drop_at (Some p) t.numbers).numbers in
       let new = renumbered t numbers' in
       let h = (numbers_long shape t.numbers (numbers_asked shape t ok)).1 in
       let kept : (q : ℕ) → q < shape.max_peers → (q ≡ p → ⊥) → rec_at shape new q ≡ rec_at shape t q =

@@ -3,7 +3,7 @@
 use Prim.Native.Nat.{ℕ, ◌<◌, ◌≤◌}
 use mathlib.Core.Bool.{Bool, true, cond}
 use mathlib.Core.List.{List}
-use mathlib.Core.Option.{Option, none, some}
+use Rattle.std.specs.Prelude.{Option, None, Some}
 use mathlib.Core.Path.{◌≡◌, refl, sym, ap, ap₂, ◌∙◌, subst}
 use lib.ListN.{length, get_or, set}
 use Rattle.seven_bit.specs.Reply.{refused}
@@ -154,14 +154,14 @@ module _ (shape : Shape) (t : Table) (out_header out_body : List ℕ) (peer : �
   in_slot_law : (p : ℕ) → p < shape.max_peers → (o : Option ℕ) → slot_for t.numbers p c.request_id ≡ o
       → FeedValue shape out_header out_body (take_rec shape v peer c now_ms p (rec_at shape t p) o) (in_slot o shape m₀ peer c now_ms p)
   unfolding take_rec
-  in_slot_law p hp none e = record { value_is = refl; answer_is = refl; out_header_is = refl; out_body_is = refl; long = ok }
-  in_slot_law p hp (some s) e = let hs = slot_for_below t.numbers p c.request_id s e in reach_value p s hp hs
+  in_slot_law p hp None e = record { value_is = refl; answer_is = refl; out_header_is = refl; out_body_is = refl; long = ok }
+  in_slot_law p hp (Some s) e = let hs = slot_for_below t.numbers p c.request_id s e in reach_value p s hp hs
 
   in_record_law : (o : Option ℕ) → record_for shape t.numbers peer ≡ o
       → FeedValue shape out_header out_body (take_at shape v peer c now_ms o) (in_record o shape m₀ peer c now_ms)
   unfolding take_at value_of
-  in_record_law none e = record { value_is = refl; answer_is = refl; out_header_is = refl; out_body_is = refl; long = ok }
-  in_record_law (some p) e =
+  in_record_law None e = record { value_is = refl; answer_is = refl; out_header_is = refl; out_body_is = refl; long = ok }
+  in_record_law (Some p) e =
       let hp = record_for_below shape t.numbers peer p e in
       let r : FeedLeft = in_slot (slot_for t.numbers p c.request_id) shape m₀ peer c now_ms p in
       subst (λ (x : Rec). FeedValue shape out_header out_body (take_rec shape v peer c now_ms p x (choose_cell c.request_id x.cells)) r)

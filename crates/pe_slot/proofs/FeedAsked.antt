@@ -1,11 +1,12 @@
 -- The laws of questions 30 and 31: what the tests before a slot's own questions tell, and what each of their answers leaves.
 -- Assumes nothing.
 use Rattle.std.proofs.Common.{◌≡◌, ℕ, ◌<◌, ◌≤◌, Bool, true, false, cond, not, ◌&&◌, ◌||◌, eqb, leb, List, length, take, sym, refl, ap, ◌∙◌, arith, eqb-true, le-leb, leb-true}
-use mathlib.Core.Bool.{and-false}
-use mathlib.Core.Option.{Option, none, some}
-use borrow.Author.Tests.{lt-leb, not-true, not-false}
+use mathlib.Core.Bool.{and-true, and-false}
+use Rattle.std.specs.Prelude.{Option, Some, None}
+use Rattle.std.specs.Option.{option_eq}
+use borrow.Author.Tests.{lt-leb}
 use Rattle.seven_bit.proofs.ReplyLaws.{and_told}
-use Rattle.seven_bit.specs.Reply.{refused}
+use Rattle.seven_bit.specs.Reply.{granted, refused}
 use Rattle.pe_frame.specs.Chunk.{Chunk, chunk_from}
 use Rattle.pe_slot.specs.declared.records.Pass.{Pass}
 use Rattle.pe_slot.specs.declared.layout.TxSlot.{TxSlot}
@@ -41,78 +42,64 @@ shaped_told words index header arena out_header out_body e =
       body_room = leb-true _ _ p₁.1;
     }
 
--- so many records as there is room for
-pub bounded_held : (H B R : ℕ) (t : TxSlot) → is_bounded H B R t ≡ true → t.index_len ≤ R
-bounded_held H B R t e =
-    let p₁ = and_told (leb t.header_len H && leb t.index_len R && leb t.property_bytes B)
-    (not (eqb t.active 0) || (eqb t.header_len 0 && eqb t.index_len 0)) e in
-    let p₂ = and_told (leb t.header_len H && leb t.index_len R) (leb t.property_bytes B) p₁.0 in
-    leb-true _ _ (and_told (leb t.header_len H) (leb t.index_len R) p₂.0).1
-
 -- question 31 is the test of the lengths, and that of the records
-end_is : (laid : Bool) (end n : ℕ) → is_end (cond laid (some end) none) n ≡ (laid && eqb end n)
-end_is true end n = refl
-end_is false end n = refl
+swap : (x e d : Bool) → (x && e && d) ≡ (x && d && e)
+swap true true d = sym (and-true d)
+swap true false d = sym (and-false d)
+swap false e d = refl
 
-within_no : (x e d : Bool) → (x && d) ≡ false → (x && e && d) ≡ false
-within_no true e d q = rw q (and-false e)
-within_no false e d q = refl
+sound_split : (H B R : ℕ) (t : TxSlot) (index : List ℕ) → is_sound H B R t index ≡ (is_bounded H B R t && is_end (ends_at 0 (take t.index_len index)) t.property_bytes)
+unfolding is_sound
+sound_split H B R t index =
+    swap (leb t.header_len H && leb t.index_len R && leb t.property_bytes B) (is_end (ends_at 0 (take t.index_len index)) t.property_bytes)
+    (not (eqb t.active 0) || (eqb t.header_len 0 && eqb t.index_len 0))
 
-within_yes : (x e d : Bool) → (x && d) ≡ true → e ≡ true → (x && e && d) ≡ true
-within_yes true e d q r = rw r q
-within_yes false e d q r = q
+-- the code's test of the records' end
+end_is : (o : Option ℕ) (n : ℕ) → option_eq eqb o (Some n) ≡ is_end o n
+end_is None n = refl
+end_is (Some m) n = refl
 
-ends_no : (x e d : Bool) → e ≡ false → (x && e && d) ≡ false
-ends_no x e d q = rw (q, and-false x)
-
-module _ (H B R : ℕ) (t : TxSlot) (index : List ℕ) {bound : Bool} (q : bound ≡ is_bounded H B R t) where
-  pub unbounded : not bound ≡ true → is_sound H B R t index ≡ false
-  unfolding is_sound
-  unbounded n =
-      within_no (leb t.header_len H && leb t.index_len R && leb t.property_bytes B) (is_end (ends_at 0 (take t.index_len index)) t.property_bytes)
-      (not (eqb t.active 0) || (eqb t.header_len 0 && eqb t.index_len 0)) (sym q ∙ not-true bound n)
-
-  module _ {p : Pass} {n : ℕ} (l : Scanned p (take t.index_len index) n) {met : Bool} (m : met ≡ (p.laid && eqb p.end t.property_bytes)) where
-    is_end_law : is_end (ends_at 0 (take t.index_len index)) t.property_bytes ≡ met
-    is_end_law = ap (λ (o : Option ℕ). is_end o t.property_bytes) (sym l.ends) ∙ end_is p.laid p.end t.property_bytes ∙ sym m
-
-    pub unlaid : not met ≡ true → is_sound H B R t index ≡ false
-    unfolding is_sound
-    unlaid k =
-        ends_no (leb t.header_len H && leb t.index_len R && leb t.property_bytes B) (is_end (ends_at 0 (take t.index_len index)) t.property_bytes)
-        (not (eqb t.active 0) || (eqb t.header_len 0 && eqb t.index_len 0)) (is_end_law ∙ not-true met k)
-
-    pub sound : not bound ≡ false → not met ≡ false → is_sound H B R t index ≡ true
-    unfolding is_sound
-    sound b k =
-        within_yes (leb t.header_len H && leb t.index_len R && leb t.property_bytes B) (is_end (ends_at 0 (take t.index_len index)) t.property_bytes)
-        (not (eqb t.active 0) || (eqb t.header_len 0 && eqb t.index_len 0)) (sym q ∙ not-false bound b) (is_end_law ∙ not-false met k)
-
--- what is told of it, and what that tells
 module _ (words index header arena : List ℕ) (number : ℕ) where
-  pub damaged : is_sound (length header) (length arena) (length index) (slot_of words) index ≡ false → none ≡ ask_sound words index header arena number
-  unfolding ask_sound
-  damaged n = rw n
+  abbrev bounded : Bool
+  bounded = is_bounded (length header) (length arena) (length index) (slot_of words)
 
-  pub sound_held : {held : Bool} → is_sound (length header) (length arena) (length index) (slot_of words) index ≡ true
-      → held ≡ holds number (take (slot_of words).index_len index) → some held ≡ ask_sound words index header arena number
-  unfolding ask_sound
-  sound_held y h = rw (y, h)
+  abbrev is_yes : Bool
+  is_yes = is_sound (length header) (length arena) (length index) (slot_of words) index
 
-  pub damaged_asked : none ≡ ask_sound words index header arena number → is_sound (length header) (length arena) (length index) (slot_of words) index ≡ false
+  abbrev split : is_yes ≡ (bounded && is_end (ends_at 0 (take (slot_of words).index_len index)) (slot_of words).property_bytes)
+  split = sound_split (length header) (length arena) (length index) (slot_of words) index
+
+  pub unbounded : bounded ≡ false → refused 31 0 ≡ ask_sound words index header arena number
   unfolding ask_sound
-  damaged_asked e = go (is_sound (length header) (length arena) (length index) (slot_of words) index) e
+  unbounded b = rw (split, b)
+
+  module _ {pass : Pass} (p : Scanned pass (take (slot_of words).index_len index) number) where
+    met : option_eq eqb pass.end (Some (slot_of words).property_bytes) ≡ is_end (ends_at 0 (take (slot_of words).index_len index)) (slot_of words).property_bytes
+    met = end_is pass.end (slot_of words).property_bytes ∙ ap (λ (o : Option ℕ). is_end o (slot_of words).property_bytes) p.ends
+
+    pub unlaid : bounded ≡ true → option_eq eqb pass.end (Some (slot_of words).property_bytes) ≡ false → refused 31 0 ≡ ask_sound words index header arena number
+    unfolding ask_sound
+    unlaid b e = rw (split, b, sym met ∙ e)
+
+    pub sound_held : bounded ≡ true → option_eq eqb pass.end (Some (slot_of words).property_bytes) ≡ true → granted pass.held ≡ ask_sound words index header arena number
+    unfolding ask_sound
+    sound_held b e = rw (split, b, sym met ∙ e, p.held)
+
+  -- what its answer tells
+  pub damaged_asked : {n v : ℕ} → refused n v ≡ ask_sound words index header arena number → (is_yes ≡ false) × (n ≡ 31) × (v ≡ 0)
+  unfolding ask_sound
+  damaged_asked {n} {v} e = go is_yes e
     where
-      go : (b : Bool) → none ≡ cond b (some (holds number (take (slot_of words).index_len index))) none → b ≡ false
+      go : (b : Bool) → refused n v ≡ cond b (granted (holds number (take (slot_of words).index_len index))) (refused 31 0) → (b ≡ false) × (n ≡ 31) × (v ≡ 0)
       go true e = absurd (let z : ◌≡◌ {A = ℕ} 0 1 = cc in omega arith)
-      go false e = refl
+      go false e = (refl, cc, cc)
 
-  pub sound_asked : {held : Bool} → some held ≡ ask_sound words index header arena number
-      → (is_sound (length header) (length arena) (length index) (slot_of words) index ≡ true) × (held ≡ holds number (take (slot_of words).index_len index))
+  pub sound_asked : {held : Bool} → granted held ≡ ask_sound words index header arena number
+      → (is_yes ≡ true) × (held ≡ holds number (take (slot_of words).index_len index))
   unfolding ask_sound
-  sound_asked {held} e = go (is_sound (length header) (length arena) (length index) (slot_of words) index) e
+  sound_asked {held} e = go is_yes e
     where
-      go : (b : Bool) → some held ≡ cond b (some (holds number (take (slot_of words).index_len index))) none
+      go : (b : Bool) → granted held ≡ cond b (granted (holds number (take (slot_of words).index_len index))) (refused 31 0)
           → (b ≡ true) × (held ≡ holds number (take (slot_of words).index_len index))
       go true e = (refl, cc)
       go false e = absurd (let z : ◌≡◌ {A = ℕ} 0 1 = cc in omega arith)
@@ -143,10 +130,10 @@ module _ (words index header arena : List ℕ) (c : Chunk) (now_ms tick : ℕ) (
   fed_unshaped s = rw s
 
   module _ (s : is_shaped words index header arena out_header out_body ≡ true) where
-    pub fed_damaged : is_sound (length header) (length arena) (length index) (slot_of words) index ≡ false
-        → slot_left (refused 31 0) words index header arena out_header out_body ≡ feed_slot words index header arena c now_ms tick out_header out_body
+    pub fed_damaged : {n v : ℕ} → (is_sound (length header) (length arena) (length index) (slot_of words) index ≡ false) × (n ≡ 31) × (v ≡ 0)
+        → slot_left (refused n v) words index header arena out_header out_body ≡ feed_slot words index header arena c now_ms tick out_header out_body
     unfolding feed_slot
-    fed_damaged n = rw (s, n)
+    fed_damaged q = rw (s, q.0, q.1, q.2)
 
     pub fed_long : is_sound (length header) (length arena) (length index) (slot_of words) index ≡ true → 16383 < length c.property
         → slot_left (refused 1 0) words index header arena out_header out_body ≡ feed_slot words index header arena c now_ms tick out_header out_body

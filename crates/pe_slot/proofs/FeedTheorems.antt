@@ -1,9 +1,8 @@
 -- What a feed leaves, for all chunks: memory follows the slot that is free of memory, and question 31 has a yes again.
 -- Assumes nothing.
-use Rattle.std.proofs.Common.{◌≡◌, ℕ, ◌+◌, ◌<◌, ◌≤◌, Bool, true, false, cond, not, ◌&&◌, ◌||◌, eqb, leb, List, length, take, set, refl, ap, ◌∙◌, arith, length-set, eq-eqb, eqb-true, le-leb, leb-true}
-use mathlib.Core.Option.{Option, none, some}
+use Rattle.std.proofs.Common.{◌≡◌, ℕ, ◌+◌, ◌<◌, ◌≤◌, Bool, true, false, cond, not, ◌&&◌, ◌||◌, eqb, leb, List, length, take, refl, ap, ◌∙◌, arith, length-set, eq-eqb, eqb-true, le-leb, leb-true}
+use Rattle.std.specs.Prelude.{Option, None, Some}
 use Rattle.seven_bit.proofs.ReplyLaws.{and_told}
-use Rattle.seven_bit.specs.Parts.{splice}
 use Rattle.seven_bit.specs.Reply.{refused}
 use Rattle.seven_bit.proofs.PartLaws.{length_splice}
 use Rattle.pe_frame.specs.Chunk.{Chunk}
@@ -20,11 +19,11 @@ pub record Sound (H B R : ℕ) (t : TxSlot) (index : List ℕ) : Type 0 where
   pub head : t.header_len ≤ H
   pub held : t.index_len ≤ R
   pub body : t.property_bytes ≤ B
-  pub ends : ends_at 0 (take t.index_len index) ≡ some t.property_bytes
+  pub ends : ends_at 0 (take t.index_len index) ≡ Some t.property_bytes
 
-end_told : (o : Option ℕ) (n : ℕ) → is_end o n ≡ true → o ≡ some n
-end_told none n e = absurd (let z : ◌≡◌ {A = ℕ} 0 1 = cc in omega arith)
-end_told (some m) n e = ap (λ (x : ℕ). some x) (eqb-true _ _ e)
+end_told : (o : Option ℕ) (n : ℕ) → is_end o n ≡ true → o ≡ Some n
+end_told None n e = absurd (let z : ◌≡◌ {A = ℕ} 0 1 = cc in omega arith)
+end_told (Some m) n e = ap (λ (x : ℕ). Some x) (eqb-true _ _ e)
 
 pub sound_told : (H B R : ℕ) (t : TxSlot) (index : List ℕ) → is_sound H B R t index ≡ true → Sound H B R t index
 unfolding is_sound
@@ -76,7 +75,7 @@ module _ (t : TxSlot) (index header arena : List ℕ) (c : Chunk) (out_header ou
         same_arena : length d ≡ length arena
         held : cond b (t.index_len + 1) t.index_len ≤ length index
         body : cond b (t.property_bytes + length c.property) t.property_bytes ≤ length arena
-        ends : ends_at 0 (take (cond b (t.index_len + 1) t.index_len) i) ≡ some (cond b (t.property_bytes + length c.property) t.property_bytes)
+        ends : ends_at 0 (take (cond b (t.index_len + 1) t.index_len) i) ≡ Some (cond b (t.property_bytes + length c.property) t.property_bytes)
 
       adding : (b : Bool) → (b ≡ true → t.index_len < length index) → (b ≡ true → t.property_bytes + length c.property ≤ length arena)
           → Adding b (new_index t index header arena c b) (new_arena t index header arena c b)

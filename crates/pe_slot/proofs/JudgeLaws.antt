@@ -2,6 +2,7 @@
 -- Assumes nothing.
 use Rattle.std.proofs.Common.{◌≡◌, ℕ, ◌+◌, ◌<◌, ◌≤◌, Bool, true, false, cond, not, ◌&&◌, ◌||◌, eqb, ltb, leb, List, length, take, sym, refl, ◌∙◌, subst, arith, length-take-le, ltb-true, leb-true}
 use mathlib.Core.Option.{none, some}
+use Rattle.std.specs.Prelude.{Some}
 use Rattle.pe_frame.specs.Chunk.{Chunk, within_count}
 use Rattle.pe_slot.specs.declared.layout.TxSlot.{TxSlot}
 use Rattle.pe_slot.specs.Slot.{Slot, Verdict, stays, closing, ◌otherwise◌then◌, storing, taking, body_length, eq_list, none_known, same_header, header_fits, header_agrees, new_header, count_agrees, new_count, after_chunk, passed, judge}
@@ -105,7 +106,7 @@ module _ (t : TxSlot) (index header arena : List ℕ) (c : Chunk) where
   abbrev pub asked : Verdict
   asked = asked_as holding
 
-  pub judge_is : t.index_len ≤ length index → ends_at 0 (take t.index_len index) ≡ some t.property_bytes → t.property_bytes ≤ length arena
+  pub judge_is : t.index_len ≤ length index → ends_at 0 (take t.index_len index) ≡ Some t.property_bytes → t.property_bytes ≤ length arena
       → judge (length header) (length arena) (length index) (contents t index header arena) c ≡ asked
   unfolding judge header_fits header_agrees new_header count_agrees new_count contents
   judge_is l e b =
@@ -140,6 +141,6 @@ module _ (t : TxSlot) (index header arena : List ℕ) (c : Chunk) where
   asked_fitting : Fitting asked
   asked_fitting = record { fits = stored; few = λ e. ltb-true _ _ (added e).0; room = λ e. leb-true _ _ (added e).1 }
 
-  pub judge_fitting : t.index_len ≤ length index → ends_at 0 (take t.index_len index) ≡ some t.property_bytes → t.property_bytes ≤ length arena
+  pub judge_fitting : t.index_len ≤ length index → ends_at 0 (take t.index_len index) ≡ Some t.property_bytes → t.property_bytes ≤ length arena
       → Fitting (judge (length header) (length arena) (length index) (contents t index header arena) c)
   judge_fitting l e b = subst Fitting (sym (judge_is l e b)) asked_fitting

@@ -1,17 +1,15 @@
 -- The laws of records: one pass over them, where they lie, and what their pieces add up to.
 -- Assumes nothing.
-use Rattle.std.proofs.Common.{◌≡◌, ℕ, zero, suc, ◌+◌, ◌-◌, ◌<◌, ◌≤◌, Bool, true, false, cond, ◌&&◌, ◌||◌, eqb, leb, List, [], ◌∷◌, map, length, get_or, take, drop, refl, ap, ◌∙◌, add-one, arith, length-append, eqb-true, le-leb}
-use mathlib.Core.Option.{Option, none, some}
-use borrow.Author.Tests.{lt-leb}
-use lib.Seq.{slice, slice-cons, slice_empty}
+use Rattle.std.proofs.Common.{◌≡◌, ℕ, zero, suc, ◌+◌, ◌-◌, ◌<◌, ◌≤◌, Bool, true, false, cond, ◌&&◌, ◌||◌, eqb, leb, List, [], ◌∷◌, map, length, get_or, take, drop, refl, ap, ◌∙◌, add-one, arith, length-append, drop-cons, eqb-true}
+use Rattle.std.specs.Prelude.{Option, None, Some}
 use Rattle.seven_bit.specs.Parts.{part, put, put_fit, joined}
 use Rattle.seven_bit.proofs.PartLaws.{fit_yes, length_part}
 use Rattle.pe_slot.specs.Slot.{Piece, body_length, insert, in_order, body_of}
 use Rattle.pe_slot.specs.Memory.{meta_number, meta_len, meta_offset, ends_at, piece_of, pieces_of}
-use Rattle.pe_slot.specs.Records.{holds, up_to}
+use Rattle.pe_slot.specs.Records.{holds}
 
 -- ---- one pass: a record more
-lay : (t u : Bool) (more : Option ℕ) → cond t (cond u more none) none ≡ cond (t && u) more none
+lay : (t u : Bool) (more : Option ℕ) → cond t (cond u more None) None ≡ cond (t && u) more None
 lay true u more = refl
 lay false u more = refl
 
@@ -20,34 +18,20 @@ meet true u more = refl
 meet false true more = refl
 meet false false more = refl
 
-module _ (index : List ℕ) (len i : ℕ) (l : i < len) (r : len ≤ length index) where
+module _ (xs : List ℕ) (i : ℕ) (l : i < length xs) where
   pub pass_ends : (laid : Bool) (end : ℕ)
-      → cond laid (ends_at end (slice i len index)) none
-      ≡ cond (laid && eqb (meta_offset (get_or index i 0)) end) (ends_at (end + meta_len (get_or index i 0)) (slice (i + 1) len index)) none
+      → cond laid (ends_at end (drop i xs)) None
+      ≡ cond (laid && eqb (meta_offset (get_or xs i 0)) end) (ends_at (end + meta_len (get_or xs i 0)) (drop (i + 1) xs)) None
   unfolding ends_at
-  pass_ends laid end = rw (slice-cons i len index 0, add-one) (lay laid (eqb (meta_offset (get_or index i 0)) end) _)
+  pass_ends laid end = rw (drop-cons xs i 0 l, add-one) (lay laid (eqb (meta_offset (get_or xs i 0)) end) _)
 
   pub pass_held : (n : ℕ) (held : Bool)
-      → (held || holds n (slice i len index)) ≡ ((held || eqb (meta_number (get_or index i 0)) n) || holds n (slice (i + 1) len index))
+      → (held || holds n (drop i xs)) ≡ ((held || eqb (meta_number (get_or xs i 0)) n) || holds n (drop (i + 1) xs))
   unfolding holds
-  pass_held n held = rw (slice-cons i len index 0, add-one) (meet held (eqb (meta_number (get_or index i 0)) n) _)
-
-  -- a number up to n is passed over, and one above it decides
-  pub pass_within : (n : ℕ) → meta_number (get_or index i 0) ≤ n → up_to n (slice i len index) ≡ up_to n (slice (i + 1) len index)
-  unfolding up_to
-  pass_within n h = rw (slice-cons i len index 0, add-one, le-leb _ _ h)
-
-  pub pass_above : (n : ℕ) → n < meta_number (get_or index i 0) → up_to n (slice i len index) ≡ false
-  unfolding up_to
-  pass_above n h = rw (slice-cons i len index 0, lt-leb _ _ h)
+  pass_held n held = rw (drop-cons xs i 0 l, add-one) (meet held (eqb (meta_number (get_or xs i 0)) n) _)
 
 -- and none left
-pub pass_over : (index : List ℕ) (len i : ℕ) → len ≤ i → i ≤ len → slice i len index ≡ []
-pass_over index len i h g =
-    let q : i ≡ len = omega arith in
-    rw (q, slice_empty)
-
-pub ends_none : (at : ℕ) (xs : List ℕ) → xs ≡ [] → ends_at at xs ≡ some at
+pub ends_none : (at : ℕ) (xs : List ℕ) → xs ≡ [] → ends_at at xs ≡ Some at
 unfolding ends_at
 ends_none at xs e = rw e
 
@@ -59,10 +43,6 @@ holds_none n held xs e = rw e (same held)
     same true = refl
     same false = refl
 
-pub up_to_none : (n : ℕ) (xs : List ℕ) → xs ≡ [] → up_to n xs ≡ true
-unfolding up_to
-up_to_none n xs e = rw e
-
 -- ---- the bytes of a record, copied
 pub piece_put : (out arena : List ℕ) (at offset len : ℕ) → offset + len ≤ length arena → at + len ≤ length out
     → put_fit out at (take (offset + len - offset) (drop offset arena)) ≡ put out at (part offset len arena)
@@ -71,23 +51,23 @@ piece_put out arena at offset len h g =
     rw e (fit_yes out at (part offset len arena) (rw (length_part offset len arena h) g))
 
 -- ---- where records lie that end at n: the first starts at the place, and the others lie behind it
-pub ends_cons : (at x : ℕ) (xs : List ℕ) (n : ℕ) → ends_at at (x ∷ xs) ≡ some n → (meta_offset x ≡ at) × (ends_at (at + meta_len x) xs ≡ some n)
+pub ends_cons : (at x : ℕ) (xs : List ℕ) (n : ℕ) → ends_at at (x ∷ xs) ≡ Some n → (meta_offset x ≡ at) × (ends_at (at + meta_len x) xs ≡ Some n)
 unfolding ends_at
 ends_cons at x xs n e = go (eqb (meta_offset x) at) refl e
   where
-    go : (t : Bool) → eqb (meta_offset x) at ≡ t → cond t (ends_at (at + meta_len x) xs) none ≡ some n
-        → (meta_offset x ≡ at) × (ends_at (at + meta_len x) xs ≡ some n)
+    go : (t : Bool) → eqb (meta_offset x) at ≡ t → cond t (ends_at (at + meta_len x) xs) None ≡ Some n
+        → (meta_offset x ≡ at) × (ends_at (at + meta_len x) xs ≡ Some n)
     go true q h = (eqb-true _ _ q, h)
     go false q h = absurd (let z : ◌≡◌ {A = ℕ} 0 1 = cc in omega arith)
 
 -- they end no earlier than they start
-pub ends_after : (at : ℕ) (xs : List ℕ) (n : ℕ) → ends_at at xs ≡ some n → at ≤ n
+pub ends_after : (at : ℕ) (xs : List ℕ) (n : ℕ) → ends_at at xs ≡ Some n → at ≤ n
 unfolding ends_at
 ends_after at [] n e = let q : at ≡ n = cc in omega arith
 ends_after at (x ∷ xs) n e = let h = ends_after (at + meta_len x) xs n (ends_cons at x xs n e).1 in omega arith
 
 -- each within the bytes
-pub ends_within : (at : ℕ) (xs : List ℕ) (n j : ℕ) → ends_at at xs ≡ some n → j < length xs → meta_offset (get_or xs j 0) + meta_len (get_or xs j 0) ≤ n
+pub ends_within : (at : ℕ) (xs : List ℕ) (n j : ℕ) → ends_at at xs ≡ Some n → j < length xs → meta_offset (get_or xs j 0) + meta_len (get_or xs j 0) ≤ n
 ends_within at [] n j e l = absurd (omega arith)
 ends_within at (x ∷ xs) n zero e l =
     let p = ends_cons at x xs n e in
@@ -96,7 +76,7 @@ ends_within at (x ∷ xs) n zero e l =
 ends_within at (x ∷ xs) n (suc j) e l = ends_within (at + meta_len x) xs n j (ends_cons at x xs n e).1 (omega arith)
 
 -- and all of them as long as the bytes are
-sum_ends : (at : ℕ) (xs arena : List ℕ) (n : ℕ) → ends_at at xs ≡ some n → n ≤ length arena → at + body_length (pieces_of xs arena) ≡ n
+sum_ends : (at : ℕ) (xs arena : List ℕ) (n : ℕ) → ends_at at xs ≡ Some n → n ≤ length arena → at + body_length (pieces_of xs arena) ≡ n
 unfolding ends_at body_length pieces_of piece_of
 sum_ends at [] arena n e h = let q : at ≡ n = cc in omega arith
 sum_ends at (x ∷ xs) arena n e h =
@@ -106,7 +86,7 @@ sum_ends at (x ∷ xs) arena n e h =
     let s = sum_ends (at + meta_len x) xs arena n p.1 h in
     omega arith
 
-pub body_ends : (xs arena : List ℕ) (n : ℕ) → ends_at 0 xs ≡ some n → n ≤ length arena → body_length (pieces_of xs arena) ≡ n
+pub body_ends : (xs arena : List ℕ) (n : ℕ) → ends_at 0 xs ≡ Some n → n ≤ length arena → body_length (pieces_of xs arena) ≡ n
 body_ends xs arena n e h = let s = sum_ends 0 xs arena n e h in omega arith
 
 -- ---- order keeps the length

@@ -2,7 +2,7 @@
 -- Assumes nothing.
 use Rattle.std.proofs.Common.{◌≡◌, ℕ, ◌+◌, ◌<◌, ◌≤◌, Bool, true, cond, ◌&&◌, eqb, leb, List, [], ◌∷◌, ◌++◌, length, take, drop, set, sym, refl, ap, ◌∙◌, add-one, arith, take-append-drop, length-take-le, take-suc-set, eq-eqb}
 use mathlib.Core.List.{map-append}
-use mathlib.Core.Option.{some}
+use Rattle.std.specs.Prelude.{Some}
 use lib.ListN.{length-map}
 use Rattle.seven_bit.specs.Parts.{part, splice}
 use Rattle.seven_bit.proofs.PartLaws.{part_splice, part_front}
@@ -21,12 +21,12 @@ packed_len k n a h g = omega arith
 pub packed_number : (k n a : ℕ) → k < 65536 → meta_number (packed k n a) ≡ k
 packed_number k n a h = omega arith
 
-ends_nil : (at end : ℕ) → ends_at at [] ≡ some end → at ≡ end
+ends_nil : (at end : ℕ) → ends_at at [] ≡ Some end → at ≡ end
 unfolding ends_at
 ends_nil at end e = cc
 
 -- one record more
-pub ends_snoc : (at : ℕ) (xs : List ℕ) (x n : ℕ) → ends_at at xs ≡ some n → meta_offset x ≡ n → ends_at at (xs ++ (x ∷ [])) ≡ some (n + meta_len x)
+pub ends_snoc : (at : ℕ) (xs : List ℕ) (x n : ℕ) → ends_at at xs ≡ Some n → meta_offset x ≡ n → ends_at at (xs ++ (x ∷ [])) ≡ Some (n + meta_len x)
 unfolding ends_at
 ends_snoc at [] x n e q = let r = ends_nil at n e in rw (r, eq-eqb (meta_offset x) n q)
 ends_snoc at (y ∷ ys) x n e q =
@@ -57,7 +57,7 @@ part_before a k b m xs ys h l =
     ∙ ap (λ (l' : List ℕ). part b m l') (take-append-drop a xs)
 
 -- the pieces stay when bytes are put behind them
-pub pieces_before : (at : ℕ) (records arena ys : List ℕ) (end k : ℕ) → ends_at at records ≡ some end → end + k ≤ length arena
+pub pieces_before : (at : ℕ) (records arena ys : List ℕ) (end k : ℕ) → ends_at at records ≡ Some end → end + k ≤ length arena
     → pieces_of records (splice end k arena ys) ≡ pieces_of records arena
 unfolding pieces_of piece_of
 pieces_before at [] arena ys end k e l = refl
@@ -75,13 +75,13 @@ map_snoc arena xs x = map-append (piece_of arena) xs (x ∷ [])
 
 -- a piece more: the record at the end of the records, and its bytes at the end of theirs
 module _ (index arena : List ℕ) (len end number : ℕ) (bytes : List ℕ)
-    (few : len < length index) (laid : ends_at 0 (take len index) ≡ some end) (room : end + length bytes ≤ length arena)
+    (few : len < length index) (laid : ends_at 0 (take len index) ≡ Some end) (room : end + length bytes ≤ length arena)
     (named : number < 65536) (short : length bytes < 65536) where
-  pub ends_grown : ends_at 0 (take (len + 1) (set index len (packed number (length bytes) end))) ≡ some (end + length bytes)
+  pub ends_grown : ends_at 0 (take (len + 1) (set index len (packed number (length bytes) end))) ≡ Some (end + length bytes)
   ends_grown =
       rw (add-one, take-suc-set index len (packed number (length bytes) end) few)
       (ends_snoc 0 (take len index) (packed number (length bytes) end) end laid (packed_offset number (length bytes) end named short)
-      ∙ ap (λ (n : ℕ). some (end + n)) (packed_len number (length bytes) end named short))
+      ∙ ap (λ (n : ℕ). Some (end + n)) (packed_len number (length bytes) end named short))
 
   new_piece : piece_of (splice end (length bytes) arena bytes) (packed number (length bytes) end) ≡ record { number = number; bytes = bytes }
   unfolding piece_of

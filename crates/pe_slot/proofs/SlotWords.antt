@@ -1,7 +1,8 @@
 -- The laws of a slot's nine words that are changed in their places.
 -- Assumes nothing.
-use Rattle.std.proofs.Common.{◌≡◌, ℕ, eqb, List, [], length, get_or, drop, set, sym, ap, ◌∙◌, arith, drop_of_length-le, drop-cons, eq-eqb, ne_eqb}
-use Rattle.pe_slot.specs.Layout.{slot_words, active_at, request_id_at, last_activity_at, lru_tick_at, num_chunks_at, header_set_at, header_len_at, index_len_at, property_bytes_at}
+use Rattle.std.proofs.Common.{◌≡◌, ℕ, Bool, true, false, cond, eqb, eqb-true, max, List, [], length, get_or, drop, set, replicate, sym, refl, ap, ◌∙◌, arith, drop_of_length-le, drop-cons, eq-eqb, ne_eqb}
+use borrow.Author.Tests.{eqb-false}
+use Rattle.pe_slot.specs.Layout.{slot_words, active_at, request_id_at, last_activity_at, lru_tick_at}
 use Rattle.pe_slot.specs.Memory.{slot_of, words_of}
 use Rattle.pe_slot.specs.Feed.{touched, cleared, close_words}
 
@@ -20,20 +21,15 @@ words_slot w h =
     let e9 : drop 9 w ≡ [] = drop_of_length-le w {i = 9} (omega arith) in
     cc
 
--- 0 in every word but the tick
-abbrev zeroed : List ℕ → List ℕ
-zeroed w =
-    set (set (set (set (set (set (set (set w active_at 0) request_id_at 0) last_activity_at 0) num_chunks_at 0) header_set_at 0) header_len_at 0) index_len_at 0) property_bytes_at 0
-
-clear_words : (w : List ℕ) → length w ≡ slot_words → zeroed w ≡ cleared w
-clear_words w h = ap zeroed (words_slot w h)
-
 pub close_nine : (w : List ℕ) → length w ≡ slot_words → close_words w ≡ cleared w
 unfolding close_words
 close_nine w h = rw (eq-eqb (length w) slot_words h)
 
-pub close_zeroed : (w : List ℕ) → length w ≡ slot_words → zeroed w ≡ close_words w
-close_zeroed w h = clear_words w h ∙ sym (close_nine w h)
+-- 0 in every word but the tick
+pub close_zeroed : (w v : List ℕ) → length w ≡ slot_words → v ≡ replicate (length w) 0 → set v lru_tick_at (get_or w lru_tick_at 0) ≡ close_words w
+close_zeroed w v h e =
+    let z : v ≡ replicate slot_words 0 = e ∙ ap (λ (n : ℕ). replicate {A = ℕ} n 0) h in
+    rw z (sym (close_nine w h))
 
 pub close_other : (w : List ℕ) → (length w ≡ slot_words → ⊥) → w ≡ close_words w
 unfolding close_words
@@ -44,11 +40,17 @@ module _ (request_id now_ms tick : ℕ) (w : List ℕ) (h : length w ≡ slot_wo
   abbrev stamped : List ℕ → List ℕ
   stamped v = set (set (set v request_id_at request_id) last_activity_at now_ms) lru_tick_at tick
 
-  first_word : get_or (stamped w) active_at 0 ≡ get_or w active_at 0
-  first_word = ap (λ (v : List ℕ). get_or (stamped v) active_at 0) (words_slot w h) ∙ ap (λ (v : List ℕ). get_or v active_at 0) (sym (words_slot w h))
+  opened : (a : ℕ) → max a 1 ≡ cond (eqb a 0) 1 a
+  opened a = go (eqb a 0) refl
+    where
+      go : (t : Bool) → eqb a 0 ≡ t → max a 1 ≡ cond t 1 a
+      go true e = let q = eqb-true a 0 e in omega arith
+      go false e = let d = eqb-false a 0 e in omega (arith, d)
 
-  pub touch_free : get_or (stamped w) active_at 0 ≡ 0 → set (stamped w) active_at 1 ≡ words_of (touched (slot_of w) request_id now_ms tick)
-  touch_free e = rw (eq-eqb _ _ (sym first_word ∙ e)) (ap (λ (v : List ℕ). set (stamped v) active_at 1) (words_slot w h))
-
-  pub touch_open : (get_or (stamped w) active_at 0 ≡ 0 → ⊥) → stamped w ≡ words_of (touched (slot_of w) request_id now_ms tick)
-  touch_open e = rw (ne_eqb _ _ (λ (z : get_or w active_at 0 ≡ 0). e (first_word ∙ z))) (ap stamped (words_slot w h))
+  pub touch_words : {m : ℕ} → m ≡ max (get_or (stamped w) active_at 0) 1
+      → set (stamped w) active_at m ≡ words_of (touched (slot_of w) request_id now_ms tick)
+  touch_words {m} e =
+      let a : get_or (stamped w) active_at 0 ≡ get_or w active_at 0 =
+      ap (λ (v : List ℕ). get_or (stamped v) active_at 0) (words_slot w h) ∙ ap (λ (v : List ℕ). get_or v active_at 0) (sym (words_slot w h)) in
+      ap (λ (k : ℕ). set (stamped w) active_at k) (e ∙ ap (λ (k : ℕ). max k 1) a ∙ opened (get_or w active_at 0))
+      ∙ ap (λ (v : List ℕ). set (stamped v) active_at (cond (eqb (get_or w active_at 0) 0) 1 (get_or w active_at 0))) (words_slot w h)

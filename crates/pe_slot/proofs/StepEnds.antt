@@ -1,16 +1,16 @@
 -- The laws of a feed's ends: memory is sound after each step, and what a step leaves at a no, or the last one, is what the slot's questions say.
 -- Assumes nothing.
-use Rattle.std.proofs.Common.{◌≡◌, ℕ, ◌+◌, ◌<◌, ◌≤◌, Bool, true, false, cond, not, ◌&&◌, ◌||◌, eqb, ltb, leb, List, length, take, set, sym, refl, ap, ◌∙◌, subst, arith, length-set, ltb-true, leb-true}
+use Rattle.std.proofs.Common.{◌≡◌, ℕ, ◌+◌, ◌<◌, ◌≤◌, Bool, true, false, cond, ◌&&◌, ◌||◌, eqb, ltb, leb, List, length, take, set, sym, refl, ap, ◌∙◌, subst, arith, length-set, ltb-true, leb-true}
 use Rattle.seven_bit.specs.Parts.{splice}
-use Rattle.seven_bit.specs.Reply.{Reply, granted, refused}
+use Rattle.seven_bit.specs.Reply.{Reply, granted, refused, ◌else◌then◌}
 use Rattle.seven_bit.proofs.PartLaws.{length_splice}
 use Rattle.pe_frame.specs.Chunk.{Chunk}
 use Rattle.pe_slot.specs.declared.layout.TxSlot.{TxSlot}
 use Rattle.pe_slot.specs.Layout.{num_chunks_at, header_set_at, header_len_at, index_len_at, property_bytes_at}
-use Rattle.pe_slot.specs.Slot.{Verdict, eq_list, passed, judge}
+use Rattle.pe_slot.specs.Slot.{Verdict, eq_list, judge}
 use Rattle.pe_slot.specs.Memory.{slot_of, words_of, packed, contents}
 use Rattle.pe_slot.specs.Records.{holds, up_to}
-use Rattle.pe_slot.specs.Feed.{cleared, Told, still, SlotLeft, slot_left, grown, placed}
+use Rattle.pe_slot.specs.Feed.{cleared, Told, still, SlotLeft, slot_left, placed}
 use Rattle.pe_slot.specs.Steps.{Ready, HeaderTaken, header_taken, take_header, CountTaken, count_taken, take_count, PieceAdded, piece_added, add_piece, Finished, finished, finish_of}
 use Rattle.pe_slot.proofs.SlotMemory.{ends_grown}
 use Rattle.pe_slot.proofs.SlotWords.{words_slot}
@@ -58,8 +58,9 @@ module _ (t : TxSlot) {index header arena out_header out_body : List ℕ} (ready
       go : (k n u : Bool)
           → (let x : CountTaken =
           cond k
-          (cond n (count_taken true (words_of t)) (cond u (count_taken true (set (words_of t) num_chunks_at count)) (count_taken false (words_of t))))
-          (count_taken ((eqb count 0 || eqb t.num_chunks count) && leb number t.num_chunks) (words_of t)) in
+          (cond n (count_taken (granted still) (words_of t))
+          (cond u (count_taken (granted still) (set (words_of t) num_chunks_at count)) (count_taken (refused 8 0) (words_of t))))
+          (count_taken ((eqb count 0 || eqb t.num_chunks count) && leb number t.num_chunks else 8 then granted still) (words_of t)) in
           Ready x.words index header arena out_header out_body)
       go false n u = ready
       go true true u = ready
@@ -141,12 +142,14 @@ module _ {words index header arena : List ℕ} {c : Chunk} {held : Bool} {out_he
       ∙ ap (λ (v : Verdict). placed (slot_of words) index header arena c v out_header out_body)
       (sym (judge_is (slot_of words) index header arena c r.ready.held r.ready.ends r.ready.body))
 
-  module _ {a : Reply Told} {w h : List ℕ} (k : header_taken a w h ≡ take_header words header c.chunk_num c.header) where
-    header_as : (b : Reply Told) → a ≡ b → after_header index header arena c held out_header out_body (header_taken b w h) ≡ said
-    header_as b q = ap (λ (x : Reply Told). after_header index header arena c held out_header out_body (header_taken x w h)) (sym q) ∙ ap (after_header index header arena c held out_header out_body) k ∙ fed_steps
+  pub header_no : {number value : ℕ} {w h : List ℕ} → header_taken (refused number value) w h ≡ take_header words header c.chunk_num c.header
+      → slot_left (refused number value) w index h arena out_header out_body ≡ said
+  header_no k = ap (after_header index header arena c held out_header out_body) k ∙ fed_steps
 
-    pub header_no : {number value : ℕ} → a ≡ refused number value → slot_left (refused number value) w index h arena out_header out_body ≡ said
-    header_no q = header_as _ q
+  -- a header that was taken
+  module _ {w h : List ℕ} (k : header_taken (granted still) w h ≡ take_header words header c.chunk_num c.header) where
+    after_taken : after_count index header arena c held out_header out_body (take_count w index c.num_chunks c.chunk_num) h ≡ said
+    after_taken = ap (after_header index header arena c held out_header out_body) k ∙ fed_steps
 
     pub ready_header : Ready w index h arena out_header out_body
     ready_header =
@@ -154,15 +157,14 @@ module _ {words index header arena : List ℕ} {c : Chunk} {held : Bool} {out_he
         (subst (λ (v : List ℕ). let x = take_header v header c.chunk_num c.header in Ready x.words index x.header arena out_header out_body) (sym (words_slot words r.ready.nine))
         (header_ready (slot_of words) (subst (λ (v : List ℕ). Ready v index header arena out_header out_body) (words_slot words r.ready.nine) r.ready) c.chunk_num c.header))
 
-    module _ (yes : a ≡ granted still) {b : Bool} {v : List ℕ} (l : count_taken b v ≡ take_count w index c.num_chunks c.chunk_num) where
-      count_as : (d : Bool) → b ≡ d → after_count index header arena c held out_header out_body (count_taken d v) h ≡ said
-      count_as d q =
-          ap (λ (x : Bool). after_count index header arena c held out_header out_body (count_taken x v) h) (sym q)
-          ∙ ap (λ (x : CountTaken). after_count index header arena c held out_header out_body x h) l
-          ∙ header_as (granted still) yes
+    pub count_no : {number value : ℕ} {v : List ℕ} → count_taken (refused number value) v ≡ take_count w index c.num_chunks c.chunk_num
+        → slot_left (refused number value) v index h arena out_header out_body ≡ said
+    count_no l = ap (λ (x : CountTaken). after_count index header arena c held out_header out_body x h) l ∙ after_taken
 
-      pub count_no : b ≡ false → slot_left (refused 8 0) v index h arena out_header out_body ≡ said
-      count_no q = count_as false q
+    -- and a count
+    module _ {v : List ℕ} (l : count_taken (granted still) v ≡ take_count w index c.num_chunks c.chunk_num) where
+      after_counted : after_piece index header arena c held out_header out_body (add_piece v index arena c.chunk_num c.property held) h ≡ said
+      after_counted = ap (λ (x : CountTaken). after_count index header arena c held out_header out_body x h) l ∙ after_taken
 
       pub ready_count : Ready v index h arena out_header out_body
       ready_count =
@@ -171,24 +173,22 @@ module _ {words index header arena : List ℕ} {c : Chunk} {held : Bool} {out_he
           (subst (λ (x : List ℕ). Ready (take_count x index c.num_chunks c.chunk_num).words index h arena out_header out_body) (sym e)
           (count_ready (slot_of w) (subst (λ (x : List ℕ). Ready x index h arena out_header out_body) e ready_header) c.num_chunks c.chunk_num))
 
-      module _ (same : b ≡ true) {d : Reply Told} {x i m : List ℕ} (n : piece_added d x i m ≡ add_piece v index arena c.chunk_num c.property held) where
-        piece_as : (y : Reply Told) → d ≡ y → after_piece index header arena c held out_header out_body (piece_added y x i m) h ≡ said
-        piece_as y q =
-            ap (λ (z : Reply Told). after_piece index header arena c held out_header out_body (piece_added z x i m) h) (sym q)
+      pub piece_no : {number value : ℕ} {x i m : List ℕ} → piece_added (refused number value) x i m ≡ add_piece v index arena c.chunk_num c.property held
+          → slot_left (refused number value) x i h m out_header out_body ≡ said
+      piece_no n = ap (λ (z : PieceAdded). after_piece index header arena c held out_header out_body z h) n ∙ after_counted
+
+      -- and a piece
+      module _ {x i m : List ℕ} (n : piece_added (granted still) x i m ≡ add_piece v index arena c.chunk_num c.property held) where
+        pub ready_piece : Ready x i h m out_header out_body
+        ready_piece =
+            let w = words_slot v ready_count.nine in
+            subst (λ (z : PieceAdded). z.answer ≡ granted still → Ready z.words z.index h z.arena out_header out_body) (sym n)
+            (subst (λ (u : List ℕ). let z = add_piece u index arena c.chunk_num c.property held in z.answer ≡ granted still → Ready z.words z.index h z.arena out_header out_body) (sym w)
+            (piece_ready (slot_of v) (subst (λ (u : List ℕ). Ready u index h arena out_header out_body) w ready_count) c.chunk_num c.property held r.named short_piece))
+            refl
+
+        pub all_passed : {q : Reply Told} {y oh ob : List ℕ} → finished q y oh ob ≡ finish_of x (contents (slot_of x) i h m) out_header out_body → slot_left q y i h m oh ob ≡ said
+        all_passed e =
+            ap (λ (f : Finished). slot_left f.answer f.words i h m f.out_header f.out_body) e
             ∙ ap (λ (z : PieceAdded). after_piece index header arena c held out_header out_body z h) n
-            ∙ count_as true same
-
-        pub piece_no : {number value : ℕ} → d ≡ refused number value → slot_left (refused number value) x i h m out_header out_body ≡ said
-        piece_no q = piece_as _ q
-
-        module _ (added : d ≡ granted still) where
-          pub ready_piece : Ready x i h m out_header out_body
-          ready_piece =
-              let w = words_slot v ready_count.nine in
-              subst (λ (z : PieceAdded). z.answer ≡ granted still → Ready z.words z.index h z.arena out_header out_body) (sym n)
-              (subst (λ (u : List ℕ). let z = add_piece u index arena c.chunk_num c.property held in z.answer ≡ granted still → Ready z.words z.index h z.arena out_header out_body) (sym w)
-              (piece_ready (slot_of v) (subst (λ (u : List ℕ). Ready u index h arena out_header out_body) w ready_count) c.chunk_num c.property held r.named short_piece))
-              added
-
-          pub all_passed : {q : Reply Told} {y oh ob : List ℕ} → finished q y oh ob ≡ finish_of x (contents (slot_of x) i h m) out_header out_body → slot_left q y i h m oh ob ≡ said
-          all_passed e = ap (λ (f : Finished). slot_left f.answer f.words i h m f.out_header f.out_body) e ∙ piece_as (granted still) added
+            ∙ after_counted

@@ -1,7 +1,7 @@
 -- The laws of the steps one after the other: they ask a slot's questions in their order.
 -- Assumes nothing.
 use Rattle.std.proofs.Common.{◌≡◌, ℕ, ◌+◌, ◌<◌, ◌≤◌, Bool, true, false, cond, eqb, ltb, leb, List, length, take, refl, ltb-true, leb-true}
-use mathlib.Core.Option.{some}
+use Rattle.std.specs.Prelude.{Some}
 use Rattle.seven_bit.specs.Reply.{Reply, granted, refused}
 use Rattle.pe_frame.specs.Chunk.{Chunk, within_count}
 use Rattle.pe_slot.specs.declared.layout.TxSlot.{TxSlot}
@@ -30,8 +30,8 @@ module _ (index header arena : List ℕ) (c : Chunk) (held : Bool) (out_header o
 
   abbrev pub after_count : CountTaken → List ℕ → SlotLeft
   after_count k h =
-      cond k.agrees (after_piece (add_piece k.words index arena c.chunk_num c.property held) h)
-      (slot_left (refused 8 0) k.words index h arena out_header out_body)
+      or_no k.answer (λ no!. slot_left no! k.words index h arena out_header out_body)
+      (after_piece (add_piece k.words index arena c.chunk_num c.property held) h)
 
   abbrev pub after_header : HeaderTaken → SlotLeft
   after_header k =
@@ -39,7 +39,7 @@ module _ (index header arena : List ℕ) (c : Chunk) (held : Bool) (out_header o
       (after_count (take_count k.words index c.num_chunks c.chunk_num) k.header)
 
   -- from the last step to the first; stores: whether the header was stored
-  module _ (t : TxSlot) (laid : ends_at 0 (take t.index_len index) ≡ some t.property_bytes) (named : c.chunk_num < 65536) (short : length c.property < 65536)
+  module _ (t : TxSlot) (laid : ends_at 0 (take t.index_len index) ≡ Some t.property_bytes) (named : c.chunk_num < 65536) (short : length c.property < 65536)
       (stores : Bool) (fits : stores ≡ true → length c.header ≤ length header) where
     either : (b : Bool) (g : TxSlot) → cond b (words_of (closed_slot g)) (words_of g) ≡ words_of (cond b (closed_slot g) g)
     either true g = refl
@@ -113,7 +113,7 @@ module _ (index header arena : List ℕ) (c : Chunk) (held : Bool) (out_header o
         go false k false n u eu false es w ew = rw (k, n, es)
 
   -- the header's before those: all are the slot's questions, in their order
-  module _ (t : TxSlot) (laid : ends_at 0 (take t.index_len index) ≡ some t.property_bytes) (named : c.chunk_num < 65536) (short : length c.property < 65536) where
+  module _ (t : TxSlot) (laid : ends_at 0 (take t.index_len index) ≡ Some t.property_bytes) (named : c.chunk_num < 65536) (short : length c.property < 65536) where
     abbrev AsHeader : Type 0
     AsHeader =
         after_header (take_header (words_of t) header c.chunk_num c.header) ≡ placed t index header arena c (asked_as t index header arena c held) out_header out_body

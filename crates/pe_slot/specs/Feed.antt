@@ -1,12 +1,13 @@
 -- A chunk that reaches a slot: the answer, and all the memory that is lent for it.
 -- Assumes nothing.
-use Rattle.std.specs.Prelude.{ℕ, ◌+◌, Bool, cond, ◌&&◌, List, ◌++◌, length, drop, set, ◌==◌, nat_le, slice_set}
+use Rattle.std.specs.Prelude.{ℕ, ◌+◌, Bool, cond, ◌&&◌, List, ◌++◌, length, drop, ◌==◌, nat_le, slice_set, Option, Some, None, Result}
 use Rattle.seven_bit.specs.Parts.{splice}
 use Rattle.seven_bit.specs.Reply.{Reply, granted, refused}
-use Rattle.pe_wire.specs.Errors.{pe_refused}
+use Rattle.pe_wire.specs.declared.error.PeError.{PeError}
+use Rattle.pe_wire.specs.Errors.{pe_told}
 use Rattle.pe_frame.specs.Chunk.{Chunk}
 use Rattle.pe_slot.specs.declared.layout.TxSlot.{TxSlot}
-use Rattle.pe_slot.specs.declared.slot.Fed.{Fed}
+use Rattle.pe_slot.specs.declared.slot.Whole.{Whole}
 use Rattle.pe_slot.specs.Layout.{slot_words}
 use Rattle.pe_slot.specs.Slot.{Event, waiting, whole, Verdict, judge}
 use Rattle.pe_slot.specs.Memory.{slot_of, words_of, packed, contents, is_sound}
@@ -77,10 +78,13 @@ abbrev pub told_answer : Reply Event → Reply Told
 told_answer (granted e) = granted (told_event e)
 told_answer (refused number value) = refused number value
 
-abbrev pub fed_told : Fed → Reply Told
-fed_told Fed.Waiting = granted still
-fed_told (Fed.Whole header_len body_len) = granted (lengths header_len body_len)
-fed_told (Fed.Refused e) = pe_refused e
+-- What the code answers: nothing yet, or the lengths of a whole list.
+abbrev pub whole_told : Option Whole → Told
+whole_told None = still
+whole_told (Some w) = lengths w.header_len w.body_len
+
+abbrev pub fed_told : Result (Option Whole) PeError → Reply Told
+fed_told r = pe_told whole_told r
 
 -- The answer with a slot's memory and the two outputs as they are then.
 pub record SlotLeft : Type 0 where

@@ -1,7 +1,7 @@
 -- How a slot lies in lent memory: its words, its records, its header room and its arena.
 -- Assumes nothing.
-use Rattle.std.specs.Prelude.{ℕ, ◌+◌, ◌*◌, ◌/◌, ◌%◌, Bool, true, false, cond, not, ◌&&◌, ◌||◌, List, [], ◌∷◌, map, length, take, ◌==◌, nat_le, slice_index}
-use Rattle.std.proofs.Math.Option.{Option, none, some}
+use Rattle.std.specs.Prelude.{ℕ, ◌+◌, ◌*◌, ◌/◌, ◌%◌, Bool, false, cond, not, ◌&&◌, ◌||◌, List, [], ◌∷◌, map, take, ◌==◌, nat_le, slice_index, Option, Some, None}
+use Rattle.std.proofs.Math.Option.{none, some}
 use Rattle.seven_bit.specs.Parts.{part}
 use Rattle.pe_slot.specs.declared.layout.TxSlot.{TxSlot}
 use Rattle.pe_slot.specs.Layout.{active_at, request_id_at, last_activity_at, lru_tick_at, num_chunks_at, header_set_at, header_len_at, index_len_at, property_bytes_at}
@@ -66,12 +66,12 @@ contents t index header arena =
 
 -- Where records that start at a place and lie end to end end.
 unfoldable pub ends_at : ℕ → List ℕ → Option ℕ
-ends_at at [] = some at
-ends_at at (x ∷ xs) = cond (meta_offset x == at) (ends_at (at + meta_len x) xs) none
+ends_at at [] = Some at
+ends_at at (x ∷ xs) = cond (meta_offset x == at) (ends_at (at + meta_len x) xs) None
 
 abbrev pub is_end : Option ℕ → ℕ → Bool
-is_end none n = false
-is_end (some end) n = end == n
+is_end None n = false
+is_end (Some end) n = end == n
 
 -- "Does that transfer's memory hold a header of at most H, at most R records lying end to end from 0, and a body length that is their sum
 -- and at most B (all 0 if free)?" Without records the sum is 0.

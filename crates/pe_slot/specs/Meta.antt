@@ -3,8 +3,6 @@
 -- A record's word is the one that lent numbers hold, so both forms have one definition: `holds` asks, over words, whether `place_of` finds a place.
 -- Assumes nothing.
 use Rattle.std.specs.Prelude.{ℕ}
-use Rattle.std.proofs.Math.Option.{Option, none, some}
-use Rattle.pe_slot.specs.declared.meta.Found.{Found}
 use Rattle.pe_slot.specs.declared.meta.FragmentMeta.{FragmentMeta}
 use Rattle.pe_slot.specs.Memory.{packed, meta_number, meta_len, meta_offset}
 
@@ -14,7 +12,3 @@ word_of m = packed m.chunk_num m.len m.offset
 -- The record of a word.
 abbrev pub meta_of : ℕ → FragmentMeta
 meta_of x = record { chunk_num = meta_number x; len = meta_len x; offset = meta_offset x }
-
-abbrev pub found_told : Found → Option ℕ
-found_told (Found.At i) = some i
-found_told Found.Absent = none

@@ -1,8 +1,7 @@
 -- What the private passes over a slot's records say.
 -- Assumes nothing.
-use Rattle.std.specs.Prelude.{◌≡◌, ℕ, ◌+◌, ◌*◌, ◌%◌, ◌≤◌, Bool, true, false, cond, ◌&&◌, List, [], ◌∷◌, ◌++◌, length, drop, ◌==◌, nat_le}
-use Rattle.std.proofs.Math.Option.{Option, none, some}
-use Rattle.pe_slot.specs.declared.records.Joined.{Joined}
+use Rattle.std.specs.Prelude.{◌≡◌, ℕ, ◌+◌, ◌*◌, ◌%◌, ◌≤◌, Bool, true, false, cond, ◌&&◌, List, [], ◌∷◌, ◌++◌, length, drop, ◌==◌, nat_le, position, Option, Some, None}
+use Rattle.std.specs.List.{list_all}
 use Rattle.pe_slot.specs.declared.records.Pass.{Pass}
 use Rattle.pe_slot.specs.Memory.{meta_number, meta_len, meta_offset, ends_at}
 use Rattle.pe_slot.specs.Slot.{Piece, all_held, body_of}
@@ -14,24 +13,19 @@ holds n (x ∷ xs) = cond (meta_number x == n) true (holds n xs)
 
 -- Does no record have a chunk number above n?
 unfoldable pub up_to : ℕ → List ℕ → Bool
-up_to n [] = true
-up_to n (x ∷ xs) = nat_le (meta_number x) n && up_to n xs
+up_to n records = list_all (λ x. nat_le (meta_number x) n) records
 
--- The place of the first record with a chunk number, counted from i. `holds` asks whether there is one: the law `holds_placed` says so.
-unfoldable pub place_from : ℕ → ℕ → List ℕ → Option ℕ
-place_from i n [] = none
-place_from i n (x ∷ xs) = cond (meta_number x == n) (some i) (place_from (i + 1) n xs)
-
+-- The place of the first record with a chunk number. `holds` asks whether there is one: the law `holds_placed` says so.
 abbrev pub place_of : ℕ → List ℕ → Option ℕ
-place_of n records = place_from 0 n records
+place_of n records = position (λ x. meta_number x == n) records
 
 abbrev pub is_place : Option ℕ → Bool
-is_place none = false
-is_place (some i) = true
+is_place None = false
+is_place (Some i) = true
 
 -- One pass: where the records end, if they lie end to end from 0, and whether the number is among them.
 pub record Scanned (r : Pass) (records : List ℕ) (n : ℕ) : Type 0 where
-  pub ends : cond r.laid (some r.end) none ≡ ends_at 0 records
+  pub ends : r.end ≡ ends_at 0 records
   pub held : r.held ≡ holds n records
 
 -- What the record of the next chunk adds to the word of a record, where both chunks have one length.
@@ -61,7 +55,7 @@ is_even (x ∷ y ∷ ys) =
 -- What joining asks: the records end within the arena, and the output has room for all of them.
 pub record Laid (records arena out : List ℕ) (n : ℕ) : Type 0 where
   pub few : length records ≤ 2048
-  pub ends : ends_at 0 records ≡ some n
+  pub ends : ends_at 0 records ≡ Some n
   pub bytes : n ≤ length arena
   pub room : n ≤ length out
 
@@ -70,15 +64,11 @@ pub record JoinedInto : Type 0 where
   pub len : Option ℕ
   pub out : List ℕ
 
-abbrev pub joined_told : Joined → Option ℕ
-joined_told (Joined.Body n) = some n
-joined_told Joined.Missing = none
-
 abbrev pub joined_into : Option ℕ → List ℕ → JoinedInto
 joined_into len out = record { len = len; out = out }
 
 unfoldable pub join_pieces : ℕ → List Piece → List ℕ → JoinedInto
 join_pieces count ps out =
     cond (all_held count ps)
-    (joined_into (some (length (body_of ps))) (body_of ps ++ drop (length (body_of ps)) out))
-    (joined_into none out)
+    (joined_into (Some (length (body_of ps))) (body_of ps ++ drop (length (body_of ps)) out))
+    (joined_into None out)

@@ -1,19 +1,16 @@
 -- What the private steps of a feed say: the answer, and the memory that the step may change.
 -- Assumes nothing.
-use Rattle.std.specs.Prelude.{◌≡◌, ℕ, ◌+◌, ◌≤◌, Bool, true, false, cond, not, ◌&&◌, ◌||◌, List, length, take, ◌==◌, nat_le, nat_lt, slice_set}
-use Rattle.std.proofs.Math.Option.{Option, none, some}
+use Rattle.std.specs.Prelude.{◌≡◌, ℕ, ◌+◌, ◌≤◌, Bool, cond, not, ◌&&◌, ◌||◌, List, length, take, ◌==◌, nat_le, nat_lt, slice_set, Some, Result}
 use Rattle.seven_bit.specs.Parts.{splice}
-use Rattle.seven_bit.specs.Reply.{Reply, granted, refused}
-use Rattle.pe_wire.specs.Errors.{pe_refused}
-use Rattle.pe_frame.specs.Chunk.{Chunk}
+use Rattle.seven_bit.specs.Reply.{Reply, granted, refused, ◌else◌then◌}
+use Rattle.pe_wire.specs.declared.error.PeError.{PeError}
+use Rattle.pe_wire.specs.Errors.{pe_told}
 use Rattle.pe_slot.specs.declared.layout.TxSlot.{TxSlot}
-use Rattle.pe_slot.specs.declared.slot.Asked.{Asked}
-use Rattle.pe_slot.specs.declared.slot.Soundness.{Soundness}
 use Rattle.pe_slot.specs.Layout.{slot_words, num_chunks_at, header_set_at, header_len_at, index_len_at, property_bytes_at}
-use Rattle.pe_slot.specs.Slot.{Slot, eq_list, is_whole, event_of, judge}
-use Rattle.pe_slot.specs.Memory.{slot_of, packed, contents, ends_at, is_sound}
+use Rattle.pe_slot.specs.Slot.{Slot, eq_list, is_whole, event_of}
+use Rattle.pe_slot.specs.Memory.{slot_of, packed, ends_at, is_sound}
 use Rattle.pe_slot.specs.Records.{holds, up_to}
-use Rattle.pe_slot.specs.Feed.{Told, still, told_answer, SlotLeft, placed, header_out, body_out, cleared}
+use Rattle.pe_slot.specs.Feed.{Told, still, told_answer, header_out, body_out, cleared}
 
 -- The part of question 31 that needs no pass over the records.
 abbrev pub is_bounded : ℕ → ℕ → ℕ → TxSlot → Bool
@@ -24,16 +21,10 @@ is_bounded H B R t =
     && (not (t.active == 0) || (t.header_len == 0 && t.index_len == 0))
 
 -- Question 31: of a sound slot it is told whether the chunk's number is among its records.
-unfoldable pub ask_sound : List ℕ → List ℕ → List ℕ → List ℕ → ℕ → Option Bool
+unfoldable pub ask_sound : List ℕ → List ℕ → List ℕ → List ℕ → ℕ → Reply Bool
 ask_sound words index header arena number =
-    cond (is_sound (length header) (length arena) (length index) (slot_of words) index)
-    (some (holds number (take (slot_of words).index_len index)))
-    none
-
--- The code's answer to it.
-abbrev pub soundness_told : Soundness → Option Bool
-soundness_told (Soundness.Sound held) = some held
-soundness_told Soundness.Damaged = none
+    is_sound (length header) (length arena) (length index) (slot_of words) index else 31 then
+    granted (holds number (take (slot_of words).index_len index))
 
 -- A slot's memory is sound, and the outputs have room.
 pub record Ready (words index header arena out_header out_body : List ℕ) : Type 0 where
@@ -41,16 +32,15 @@ pub record Ready (words index header arena out_header out_body : List ℕ) : Typ
   pub head : (slot_of words).header_len ≤ length header
   pub held : (slot_of words).index_len ≤ length index
   pub records : length index ≤ 2048
-  pub ends : ends_at 0 (take (slot_of words).index_len index) ≡ some (slot_of words).property_bytes
+  pub ends : ends_at 0 (take (slot_of words).index_len index) ≡ Some (slot_of words).property_bytes
   pub body : (slot_of words).property_bytes ≤ length arena
   pub bytes : length arena ≤ 65536
   pub header_room : length header ≤ length out_header
   pub body_room : length arena ≤ length out_body
 
 -- A step's answer in numbers: with a yes nothing is told yet, and a no is the feed's answer.
-abbrev pub asked_told : Asked → Reply Told
-asked_told Asked.Yes = granted still
-asked_told (Asked.No e) = pe_refused e
+abbrev pub asked_told : {A : Type 0} → Result A PeError → Reply Told
+asked_told r = pe_told (λ a. still) r
 
 -- Chunk 1's header: 4 where it is too long; it is stored where none is known, and else the same, or 8.
 pub record HeaderTaken : Type 0 where
@@ -74,21 +64,23 @@ take_header words header number new =
     (header_taken (granted still) words header)
 
 -- The count: where one is known, the chunk's is 0 or the same, and its number is within it; else the chunk's is taken, if no number that is
--- held is above it.
+-- held is above it. No is 8.
 pub record CountTaken : Type 0 where
-  pub agrees : Bool
+  pub answer : Reply Told
   pub words : List ℕ
 
-abbrev pub count_taken : Bool → List ℕ → CountTaken
-count_taken agrees words = record { agrees = agrees; words = words }
+abbrev pub count_taken : Reply Told → List ℕ → CountTaken
+count_taken answer words = record { answer = answer; words = words }
 
 unfoldable pub take_count : List ℕ → List ℕ → ℕ → ℕ → CountTaken
 take_count words index count number =
     cond ((slot_of words).num_chunks == 0)
-    (cond (count == 0) (count_taken true words)
-    (cond (up_to count (take (slot_of words).index_len index)) (count_taken true (slice_set words num_chunks_at count))
-    (count_taken false words)))
-    (count_taken ((count == 0 || (slot_of words).num_chunks == count) && nat_le number (slot_of words).num_chunks) words)
+    (cond (count == 0) (count_taken (granted still) words)
+    (cond (up_to count (take (slot_of words).index_len index)) (count_taken (granted still) (slice_set words num_chunks_at count))
+    (count_taken (refused 8 0) words)))
+    (count_taken
+    ((count == 0 || (slot_of words).num_chunks == count) && nat_le number (slot_of words).num_chunks else 8 then granted still)
+    words)
 
 -- The piece: number not 0, not held, fewer than R records, body still at most B.
 pub record PieceAdded : Type 0 where
@@ -131,10 +123,3 @@ finish_of words s out_header out_body =
     (cond (is_whole s.header s.count s.pieces) (cleared words) words)
     (header_out (granted (event_of s.header s.count s.pieces)) out_header)
     (body_out (granted (event_of s.header s.count s.pieces)) out_body)
-
--- A touched slot after all steps: its questions are put to what it holds, and their verdict is carried out.
-abbrev pub asked_slot : List ℕ → List ℕ → List ℕ → List ℕ → Chunk → List ℕ → List ℕ → SlotLeft
-asked_slot words index header arena c out_header out_body =
-    placed (slot_of words) index header arena c
-    (judge (length header) (length arena) (length index) (contents (slot_of words) index header arena) c)
-    out_header out_body

@@ -2,7 +2,7 @@
 
 pub const SLOT_WORDS: usize = 9;
 
-// The places of its words.
+// The places of its words. They stay a slice of numbers: C lends them so, and pe_reassembler a part of its own.
 pub const ACTIVE: usize = 0;
 
 pub const REQUEST_ID: usize = 1;

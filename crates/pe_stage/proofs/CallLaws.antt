@@ -3,7 +3,7 @@
 use Prim.Native.Nat.{ℕ, zero, suc, ◌+◌, ◌%◌, ◌<◌, ◌≤◌}
 use mathlib.Core.Bool.{Bool, true, false, cond}
 use mathlib.Core.List.{List, ◌++◌}
-use mathlib.Core.Option.{none, some}
+use Rattle.std.specs.Prelude.{Some, None}
 use mathlib.Core.Path.{◌≡◌, refl, sym, ap, ◌∙◌}
 use native.Mathlib.Omega.{arith}
 use borrow.Author.Tests.{le-leb, lt-leb, eq-eqb, ne_eqb}
@@ -48,20 +48,22 @@ unfolding join_call ask_join
 join_granted words buffer p list count h g b q =
     rw (le-leb 113 (length words) h, le-leb p 15 (omega arith), eq-eqb (place_at (stage_in words) p).next_chunk 0 b, q)
 
+pub ruleset joins = (join_short, join_no_place, join_busy, join_refused, join_granted)
+
 -- ---- a turn
 -- a place that waits is one of the 16
-waiting_within : (places : List Place) (more from p : ℕ) → from < 16 → first_waiting places more from ≡ some p → p < 16
+waiting_within : (places : List Place) (more from p : ℕ) → from < 16 → first_waiting places more from ≡ Some p → p < 16
 unfolding first_waiting
 waiting_within places zero from p h q = absurd (let z : ◌≡◌ {A = ℕ} 0 1 = cc in omega arith)
 waiting_within places (suc more) from p h q =
     go (is_free (get_or places from free_place)) (waiting_within places more ((from + 1) % 16) p (omega arith)) q
   where
-    go : (b : Bool) → (first_waiting places more ((from + 1) % 16) ≡ some p → p < 16)
-        → cond b (first_waiting places more ((from + 1) % 16)) (some from) ≡ some p → p < 16
+    go : (b : Bool) → (first_waiting places more ((from + 1) % 16) ≡ Some p → p < 16)
+        → cond b (first_waiting places more ((from + 1) % 16)) (Some from) ≡ Some p → p < 16
     go true rest e = rest e
     go false rest e = let s : from ≡ p = cc in omega arith
 
-pub next_within : (words : List ℕ) (p : ℕ) → next_waiting (stage_in words) ≡ some p → p < 16
+pub next_within : (words : List ℕ) (p : ℕ) → next_waiting (stage_in words) ≡ Some p → p < 16
 next_within words p q = waiting_within (stage_in words).places 16 ((stage_in words).turn % 16) p (omega arith) q
 
 -- what the cutter left tells what it said: its parts
@@ -100,32 +102,28 @@ pub turn_short : (words buffer out : List ℕ) → length words < 113 → turn_c
 unfolding turn_call
 turn_short words buffer out h = rw (lt-leb 113 (length words) h)
 
-pub turn_nobody : (words buffer out : List ℕ) → HasPlaces words → next_waiting (stage_in words) ≡ none
-    → turn_call words buffer out ≡ turn_left (granted none) words out
+pub turn_nobody : (words buffer out : List ℕ) → HasPlaces words → next_waiting (stage_in words) ≡ None
+    → turn_call words buffer out ≡ turn_left (granted None) words out
 unfolding turn_call ask_turn
 turn_nobody words buffer out h q = rw (le-leb 113 (length words) h, q)
 
 -- the same numbers are handed out, and the same is left
 handed_same : (p k n len : ℕ) (moved after : List ℕ) (count size : ℕ) (words out : List ℕ) → n ≡ count → len ≡ size → moved ≡ words → after ≡ out
-    → turn_left (granted (some (record { place = p; chunk_num = k; num_chunks = n; len = len }))) moved after
-    ≡ turn_left (granted (some (record { place = p; chunk_num = k; num_chunks = count; len = size }))) words out
+    → turn_left (granted (Some (record { place = p; chunk_num = k; num_chunks = n; len = len }))) moved after
+    ≡ turn_left (granted (Some (record { place = p; chunk_num = k; num_chunks = count; len = size }))) words out
 handed_same p k n len moved after count size words out e f g h = rw (e, f, g, h)
-
--- a place is its list and the number of its next chunk
-place_is : (place : Place) (list : Outgoing) (k : ℕ) → list ≡ place.list → k ≡ place.next_chunk → place ≡ holding list k
-place_is place list k e f = rw (e, f)
 
 -- the cutter's word about the list of a place that waits
 turn_not : (words buffer out : List ℕ) (p : ℕ) (list : Outgoing) (k number value : ℕ) → HasPlaces words
-    → next_waiting (stage_in words) ≡ some p → place_at (stage_in words) p ≡ holding list k
+    → next_waiting (stage_in words) ≡ Some p → place_at (stage_in words) p ≡ holding list k
     → chunk_in buffer list k (length out) ≡ refused number value → turn_call words buffer out ≡ turn_left (refused number value) words out
 unfolding turn_call ask_turn ask_chunk
 turn_not words buffer out p list k number value h w e q = rw (le-leb 113 (length words) h, w, e, q)
 
 turn_written : (words buffer out : List ℕ) (p : ℕ) (list : Outgoing) (k : ℕ) (bytes : List ℕ) → HasPlaces words
-    → next_waiting (stage_in words) ≡ some p → place_at (stage_in words) p ≡ holding list k → chunk_in buffer list k (length out) ≡ granted bytes
+    → next_waiting (stage_in words) ≡ Some p → place_at (stage_in words) p ≡ holding list k → chunk_in buffer list k (length out) ≡ granted bytes
     → turn_call words buffer out
-    ≡ turn_left (granted (some (record { place = p; chunk_num = k; num_chunks = chunks_in buffer list; len = length bytes })))
+    ≡ turn_left (granted (Some (record { place = p; chunk_num = k; num_chunks = chunks_in buffer list; len = length bytes })))
     (moved_on p list (cond (ltb k (chunks_in buffer list)) (k + 1) 0) words)
     (bytes ++ drop (length bytes) out)
 unfolding turn_call ask_turn ask_chunk
@@ -133,26 +131,26 @@ turn_written words buffer out p list k bytes h w e q = rw (le-leb 113 (length wo
 
 -- the same by what the code's calls leave
 pub turn_refused : (words buffer out : List ℕ) (p : ℕ) (list : Outgoing) (k : ℕ) (after : List ℕ) (number value : ℕ) → HasPlaces words
-    → next_waiting (stage_in words) ≡ some p → list ≡ (place_at (stage_in words) p).list → k ≡ (place_at (stage_in words) p).next_chunk
+    → next_waiting (stage_in words) ≡ Some p → place_at (stage_in words) p ≡ holding list k
     → counted (refused number value) after ≡ counting (chunks_in buffer list) (chunk_in buffer list k (length out)) out
     → turn_left (refused number value) words after ≡ turn_call words buffer out
-turn_refused words buffer out p list k after number value h w e f q =
+turn_refused words buffer out p list k after number value h w e q =
     let t = counting_refused _ (chunk_in buffer list k (length out)) out after number value q in
     ap (λ (o : List ℕ). turn_left (refused number value) words o) t.1
-    ∙ sym (turn_not words buffer out p list k number value h w (place_is _ list k e f) t.0)
+    ∙ sym (turn_not words buffer out p list k number value h w e t.0)
 
 pub turn_granted : (words buffer out : List ℕ) (p : ℕ) (list : Outgoing) (k : ℕ) (after : List ℕ) (n len next : ℕ) (moved : List ℕ) → HasPlaces words
-    → next_waiting (stage_in words) ≡ some p → list ≡ (place_at (stage_in words) p).list → k ≡ (place_at (stage_in words) p).next_chunk
+    → next_waiting (stage_in words) ≡ Some p → place_at (stage_in words) p ≡ holding list k
     → counted (granted (record { num_chunks = n; len = len })) after ≡ counting (chunks_in buffer list) (chunk_in buffer list k (length out)) out
     → next ≡ cond (ltb k n) (k + 1) 0 → moved ≡ moved_on p list next words
-    → turn_left (granted (some (record { place = p; chunk_num = k; num_chunks = n; len = len }))) moved after ≡ turn_call words buffer out
-turn_granted words buffer out p list k after n len next moved h w e f q g m =
+    → turn_left (granted (Some (record { place = p; chunk_num = k; num_chunks = n; len = len }))) moved after ≡ turn_call words buffer out
+turn_granted words buffer out p list k after n len next moved h w e q g m =
     let t = counting_granted _ (chunk_in buffer list k (length out)) out after n len q in
     handed_same p k n len moved after (chunks_in buffer list) (length t.0) _ _ t.2 t.3
     (m
     ∙ ap (λ (i : ℕ). moved_on p list i words) (g ∙ ap (λ (c : ℕ). cond (ltb k c) (k + 1) 0) t.2))
     t.4
-    ∙ sym (turn_written words buffer out p list k t.0 h w (place_is _ list k e f) t.1)
+    ∙ sym (turn_written words buffer out p list k t.0 h w e t.1)
 
 -- what a chunk that was written tells of its number
 pub written_number : (buffer out : List ℕ) (list : Outgoing) (k : ℕ) (after : List ℕ) (n len : ℕ)

@@ -1,70 +1,62 @@
 -- The laws of a list in the lent buffer, and of the numbers that are too large for the cutter.
 -- Assumes nothing.
-use Prim.Native.Nat.{ℕ, ◌+◌, ◌-◌, min, ◌<◌, ◌≤◌}
-use mathlib.Core.Bool.{true, false}
+use Prim.Native.Nat.{ℕ, ◌+◌, min, ◌<◌, ◌≤◌}
+use mathlib.Core.Bool.{Bool, true, false}
 use mathlib.Core.List.{List}
 use mathlib.Core.Logic.{⊎_elim}
-use mathlib.Core.Path.{◌≡◌, refl, sym, ◌∙◌}
+use mathlib.Core.Path.{◌≡◌, refl, sym, ap, ◌∙◌}
 use native.Mathlib.Omega.{arith}
-use borrow.Author.Tests.{le-leb, lt-leb, leb-true, leb-false}
+use borrow.Author.Tests.{leb-true, leb-false}
 use lib.Dec.{leb}
-use lib.ListN.{length, take, drop}
-use Rattle.seven_bit.specs.Parts.{part}
-use Rattle.seven_bit.specs.Reply.{Reply, granted, refused}
-use Rattle.seven_bit.proofs.ReplyLaws.{both, asked, and_told}
-use Rattle.pe_chunker.specs.Cut.{clamped, budget, later_capacity, first_capacity, ask_first, body_pieces, chunk_at, ask_cut, cut_count, cut_chunk, counting}
+use lib.ListN.{length}
+use Rattle.seven_bit.specs.Reply.{Reply, granted, refused, ◌else◌then◌}
+use Rattle.seven_bit.proofs.ReplyLaws.{both, asked, refused_not}
+use Rattle.pe_chunker.specs.Cut.{clamped, budget, later_capacity, first_capacity, ask_first, body_pieces, chunk_at, ask_cut, cut_count, cut_chunk, counted, counting}
 use Rattle.pe_chunker.proofs.AskLaws.{Cut, cut_id}
 use Rattle.pe_chunker.proofs.CutLaws.{clamped_high, clamped_same}
 use Rattle.pe_chunker.proofs.ChunkLaws.{count_told, chunk_refused, chunk_past, chunk_told}
 use Rattle.pe_stage.specs.declared.place.Outgoing.{Outgoing}
-use Rattle.pe_stage.specs.Stage.{header_in, body_in, is_inside, count_in, chunk_in, chunks_in}
+use Rattle.pe_stage.specs.Stage.{header_in, body_in, is_inside, Lent, lent, lent_in, count_in, chunk_in, chunks_in}
 
 -- ---- a list in the lent buffer
--- len bytes from at on, by the code's test
-pub part_test : (at len room : ℕ) → at ≤ room → leb len (room - at) ≡ leb (at + len) room
-part_test at len room h =
-    ⊎_elim
-    (λ t. let l : len ≤ room - at = leb-true len (room - at) t in t ∙ sym (le-leb (at + len) room (omega arith)))
-    (λ f. let l : room - at < len = leb-false len (room - at) f in f ∙ sym (lt-leb (at + len) room (omega arith)))
-    (both (leb len (room - at)))
+-- a test whose no is 30, by its answer
+refused_30 : {A : Type 0} (b : Bool) (a : A) (number value : ℕ) → refused number value ≡ (b else 30 then granted a)
+    → (b ≡ false) × (number ≡ 30) × (value ≡ 0)
+refused_30 true a number value q = absurd (refused_not number value a q)
+refused_30 false a number value q = (refl, cc, cc)
 
--- whether a list is inside: what its header decides, and what is left to its body
-pub header_outside : (buffer : List ℕ) (list : Outgoing) → leb (list.header_at + list.header_len) (length buffer) ≡ false
-    → is_inside buffer list ≡ false
-unfolding is_inside
-header_outside buffer list e = rw e
+granted_30 : {A : Type 0} (b : Bool) (a x : A) → granted x ≡ (b else 30 then granted a) → (b ≡ true) × (x ≡ a)
+granted_30 true a x q = (refl, cc)
+granted_30 false a x q = absurd (refused_not 30 0 x (sym q))
 
-pub header_inside : (buffer : List ℕ) (list : Outgoing) → leb (list.header_at + list.header_len) (length buffer) ≡ true
-    → is_inside buffer list ≡ leb (list.body_at + list.body_len) (length buffer)
-unfolding is_inside
-header_inside buffer list e = rw e
+-- a list that is outside by its header, or by its body, or inside
+module _ (buffer : List ℕ) (list : Outgoing) where
+  abbrev header_fits : Bool
+  header_fits = leb (list.header_at + list.header_len) (length buffer)
 
--- where a list that is inside ends
-pub inside_told : (buffer : List ℕ) (list : Outgoing) → is_inside buffer list ≡ true
-    → (list.header_at + list.header_len ≤ length buffer) × (list.body_at + list.body_len ≤ length buffer)
-unfolding is_inside
-inside_told buffer list e =
-    let t = and_told (leb (list.header_at + list.header_len) (length buffer)) (leb (list.body_at + list.body_len) (length buffer)) e in
-    (leb-true _ _ t.0, leb-true _ _ t.1)
+  abbrev body_fits : Bool
+  body_fits = leb (list.body_at + list.body_len) (length buffer)
 
--- a list that is outside is refused
-pub count_outside : (buffer : List ℕ) (list : Outgoing) → is_inside buffer list ≡ false → count_in buffer list ≡ refused 30 0
-unfolding count_in
-count_outside buffer list e = rw e
+  pub header_outside : {A : Type 0} (number value : ℕ) (next : Reply A) → refused number value ≡ (header_fits else 30 then granted (header_in buffer list))
+      → refused number value ≡ (is_inside buffer list else 30 then next)
+  unfolding is_inside
+  header_outside number value next q = let t = refused_30 _ _ number value q in rw (t.0, t.1, t.2)
 
-pub chunk_outside : (buffer : List ℕ) (list : Outgoing) (k room : ℕ) → is_inside buffer list ≡ false → chunk_in buffer list k room ≡ refused 30 0
-unfolding chunk_in
-chunk_outside buffer list k room e = rw e
+  pub body_outside : {A : Type 0} (header : List ℕ) (number value : ℕ) (next : Reply A) → granted header ≡ (header_fits else 30 then granted (header_in buffer list))
+      → refused number value ≡ (body_fits else 30 then granted (body_in buffer list)) → refused number value ≡ (is_inside buffer list else 30 then next)
+  unfolding is_inside
+  body_outside header number value next g q =
+      let t = refused_30 _ _ number value q in
+      rw ((granted_30 _ _ header g).0, t.0, t.1, t.2)
 
--- `&buffer[a..a + k]` is lent as this, which is the part
-abbrev lent : {A : Type 0} → ℕ → ℕ → List A → List A
-lent a k xs = take (a + k - a) (drop a xs)
-
-lent_length : (a k : ℕ) → a + k - a ≡ k
-lent_length a k = omega arith
-
-lent_part : {A : Type 0} (a k : ℕ) (xs : List A) → lent a k xs ≡ part a k xs
-lent_part a k xs = rw (lent_length a k)
+  pub both_inside : (header body : List ℕ) (id limit : ℕ) → granted header ≡ (header_fits else 30 then granted (header_in buffer list))
+      → granted body ≡ (body_fits else 30 then granted (body_in buffer list))
+      → granted (lent id header body limit) ≡ (is_inside buffer list else 30 then granted (lent id (header_in buffer list) (body_in buffer list) limit))
+  unfolding is_inside
+  both_inside header body id limit g h =
+      let s = granted_30 _ _ header g in
+      let t = granted_30 _ _ body h in
+      rw (s.0, s.1, t.0, t.1)
 
 -- ---- numbers that are too large for the cutter
 -- a number that is kept, and one that is brought down to the most
@@ -143,62 +135,61 @@ chunk_number id header body limit k room =
     (both (leb k 65535))
 
 -- ---- what the cutter is lent
-abbrev header_lent : List ℕ → Outgoing → List ℕ
-header_lent buffer list = lent list.header_at list.header_len buffer
-
-abbrev body_lent : List ℕ → Outgoing → List ℕ
-body_lent buffer list = lent list.body_at list.body_len buffer
-
-header_lent_law : (buffer : List ℕ) (list : Outgoing) → header_lent buffer list ≡ header_in buffer list
-header_lent_law buffer list = lent_part list.header_at list.header_len buffer
-
-body_lent_law : (buffer : List ℕ) (list : Outgoing) → body_lent buffer list ≡ body_in buffer list
-body_lent_law buffer list = lent_part list.body_at list.body_len buffer
-
--- the count
-pub count_lent : (buffer : List ℕ) (list : Outgoing) (id limit : ℕ) → is_inside buffer list ≡ true
-    → id ≡ min list.request_id 255 → limit ≡ min list.max_sysex 16384
-    → cut_count id (header_lent buffer list) (body_lent buffer list) limit ≡ count_in buffer list
+-- the buffer's refusal
+pub count_outside : (buffer : List ℕ) (list : Outgoing) (number value : ℕ)
+    → refused number value ≡ (is_inside buffer list else 30 then granted (lent_in buffer list)) → refused number value ≡ count_in buffer list
 unfolding count_in
-count_lent buffer list id limit i e f =
-    let h = header_in buffer list in
-    let b = body_in buffer list in
-    rw (i, e, f, header_lent_law buffer list, body_lent_law buffer list, count_id list.request_id h b (min list.max_sysex 16384))
-    (count_limit list.request_id h b list.max_sysex)
+count_outside buffer list number value q = let t = refused_30 _ _ number value q in rw (t.0, t.1, t.2)
 
--- chunk k, and the count beside it
-chunk_lent : (buffer : List ℕ) (list : Outgoing) (k room id limit number : ℕ) → is_inside buffer list ≡ true
-    → id ≡ min list.request_id 255 → limit ≡ min list.max_sysex 16384 → number ≡ min k 65535
-    → cut_chunk id (header_lent buffer list) (body_lent buffer list) limit number room ≡ chunk_in buffer list k room
+pub counting_outside : (buffer : List ℕ) (list : Outgoing) (k number value : ℕ) (out : List ℕ)
+    → refused number value ≡ (is_inside buffer list else 30 then granted (lent_in buffer list))
+    → counted (refused number value) out ≡ counting (chunks_in buffer list) (chunk_in buffer list k (length out)) out
 unfolding chunk_in
-chunk_lent buffer list k room id limit number i e f n =
-    let h = header_in buffer list in
-    let b = body_in buffer list in
-    rw (
-      i,
-      e,
-      f,
-      n,
-      header_lent_law buffer list,
-      body_lent_law buffer list,
-      chunk_id list.request_id h b (min list.max_sysex 16384) (min k 65535) room,
-      chunk_limit list.request_id h b list.max_sysex (min k 65535) room,
-    )
-    (chunk_number list.request_id h b list.max_sysex k room)
+counting_outside buffer list k number value out q = let t = refused_30 _ _ number value q in rw (t.0, t.1, t.2)
 
-chunks_lent : (buffer : List ℕ) (list : Outgoing) (limit : ℕ) → limit ≡ min list.max_sysex 16384
-    → length (body_pieces limit (length (header_lent buffer list)) (body_lent buffer list)) ≡ chunks_in buffer list
-chunks_lent buffer list limit f =
-    rw (f, header_lent_law buffer list, body_lent_law buffer list, pieces_most list.max_sysex (length (header_in buffer list)) (body_in buffer list))
+module _ (buffer : List ℕ) (list : Outgoing) {id limit : ℕ} {header body : List ℕ}
+    (g : granted (lent id header body limit) ≡ (is_inside buffer list else 30 then granted (lent_in buffer list))) where
+  i : is_inside buffer list ≡ true
+  i = (granted_30 _ _ _ g).0
 
--- and what both leave
-pub counting_lent : (buffer : List ℕ) (list : Outgoing) (k room id limit number : ℕ) (out : List ℕ) → is_inside buffer list ≡ true
-    → id ≡ min list.request_id 255 → limit ≡ min list.max_sysex 16384 → number ≡ min k 65535
-    → counting (length (body_pieces limit (length (header_lent buffer list)) (body_lent buffer list)))
-    (cut_chunk id (header_lent buffer list) (body_lent buffer list) limit number room) out
-    ≡ counting (chunks_in buffer list) (chunk_in buffer list k room) out
-counting_lent buffer list k room id limit number out i e f n =
-    rw (chunk_lent buffer list k room id limit number i e f n, chunks_lent buffer list limit f)
+  e : lent id header body limit ≡ lent_in buffer list
+  e = (granted_30 _ _ _ g).1
+
+  -- the count
+  pub count_lent : cut_count id header body limit ≡ count_in buffer list
+  unfolding count_in
+  count_lent =
+      let h = header_in buffer list in
+      let b = body_in buffer list in
+      rw (i, ap (λ (l : Lent). cut_count l.request_id l.header l.body l.max_sysex) e, count_id list.request_id h b (min list.max_sysex 16384))
+      (count_limit list.request_id h b list.max_sysex)
+
+  -- chunk k, and the count beside it
+  chunk_lent : (k room : ℕ) → cut_chunk id header body limit (min k 65535) room ≡ chunk_in buffer list k room
+  unfolding chunk_in
+  chunk_lent k room =
+      let h = header_in buffer list in
+      let b = body_in buffer list in
+      rw (
+        i,
+        ap (λ (l : Lent). cut_chunk l.request_id l.header l.body l.max_sysex (min k 65535) room) e,
+        chunk_id list.request_id h b (min list.max_sysex 16384) (min k 65535) room,
+        chunk_limit list.request_id h b list.max_sysex (min k 65535) room,
+      )
+      (chunk_number list.request_id h b list.max_sysex k room)
+
+  chunks_lent : length (body_pieces limit (length header) body) ≡ chunks_in buffer list
+  chunks_lent =
+      rw (
+        ap (λ (l : Lent). length (body_pieces l.max_sysex (length l.header) l.body)) e,
+        pieces_most list.max_sysex (length (header_in buffer list)) (body_in buffer list),
+      )
+
+  -- and what both leave
+  pub counting_lent : (k room number : ℕ) (out : List ℕ) → number ≡ min k 65535
+      → counting (length (body_pieces limit (length header) body)) (cut_chunk id header body limit number room) out
+      ≡ counting (chunks_in buffer list) (chunk_in buffer list k room) out
+  counting_lent k room number out n = rw (n, chunk_lent k room, chunks_lent)
 
 -- what a grant tells of the chunk's number
 pub number_told : (buffer : List ℕ) (list : Outgoing) (k room : ℕ) (bytes : List ℕ) → chunk_in buffer list k room ≡ granted bytes → k ≤ 16383

@@ -2,16 +2,16 @@
 -- Assumes nothing.
 use Prim.Native.Nat.{ℕ, zero, suc, ◌+◌, ◌-◌, ◌*◌, ◌%◌, ◌≤◌, ◌<◌}
 use mathlib.Core.List.{List, [], ◌∷◌, ◌++◌}
-use mathlib.Core.Option.{none, some}
+use Rattle.std.specs.Prelude.{Some, None}
 use mathlib.Core.Path.{◌≡◌, refl, sym, ap, ◌∙◌}
-use native.Mathlib.Nat.{add-zero}
 use native.Mathlib.Omega.{arith}
+use Rattle.std.proofs.Common.{append_assoc}
 use borrow.Author.Tests.{eq-eqb, ne_eqb, le-leb, lt-leb}
-use lib.ListN.{length, get_or, set, drop, replicate, length-set, length-append, length-drop, length-replicate, replicate-append-replicate}
-use lib.Seq.{drop-cons, drop-drop, get_or-drop, sets, set-append_left}
-use Rattle.seven_bit.specs.Parts.{put}
+use lib.ListN.{length, get_or, set, take, drop, replicate, length-take, length-set, length-append, length-drop}
+use lib.Seq.{drop-cons, drop-drop, sets, set-append_left}
+use Rattle.seven_bit.specs.Parts.{put, splice}
+use Rattle.seven_bit.proofs.PartLaws.{put_is, rest}
 use Rattle.seven_bit.specs.Reply.{granted, refused}
-use Rattle.seven_bit.proofs.PartLaws.{put_one, put_put, put_front}
 use Rattle.pe_stage.specs.declared.place.Outgoing.{Outgoing}
 use Rattle.pe_stage.specs.Stage.{Place, holding, Stage, stage, free_place, empty, place_at, first_waiting}
 use Rattle.pe_stage.specs.Words.{place_words, place_words_at, stage_words, HasPlaces, place_in, places_in, stage_in, words_of, storing, placed, kept, new_call}
@@ -30,58 +30,42 @@ place_read (suc k) (suc p) ws h =
 pub place_at_law : (words : List ℕ) (p : ℕ) → p < 16 → place_at (stage_in words) p ≡ place_in (drop (place_words_at p) words)
 place_at_law words p h = place_read 16 p (drop 1 words) h ∙ ap place_in (drop-drop (place_words * p) 1 words)
 
-module _ (words : List ℕ) (p : ℕ) {at : ℕ} (h : p < 16) (e : at ≡ place_words_at p) where
-  word_of : (i : ℕ) → get_or words (at + i) 0 ≡ get_or (drop (place_words_at p) words) i 0
-  word_of i = ap (λ (n : ℕ). get_or words (n + i) 0) e ∙ sym (get_or-drop (place_words_at p) words i 0)
-
-  pub next_chunk_read : get_or words (at + 6) 0 ≡ (place_at (stage_in words) p).next_chunk
-  next_chunk_read = word_of 6 ∙ ap (λ (x : Place). x.next_chunk) (sym (place_at_law words p h))
-
-  pub list_read : record {
-    header_at = get_or words (at + 0) 0;
-    header_len = get_or words (at + 1) 0;
-    body_at = get_or words (at + 2) 0;
-    body_len = get_or words (at + 3) 0;
-    request_id = get_or words (at + 4) 0;
-    max_sysex = get_or words (at + 5) 0;
-  }
-      ≡ (place_at (stage_in words) p).list
-  list_read =
-      rw (word_of 0, word_of 1, word_of 2, word_of 3, word_of 4, word_of 5) (ap (λ (x : Place). x.list) (sym (place_at_law words p h)))
+-- the code's reading
+pub place_seen : (words : List ℕ) (p at : ℕ) → p < 16 → at ≡ place_words_at p
+    → place_in (take (length words - at) (drop at words)) ≡ place_at (stage_in words) p
+place_seen words p at h e = rw (e, rest) (sym (place_at_law words p h))
 
 -- ---- the search for who is next
--- a search from one place on that has asked so many places and comes to place p
-pub record Asked (places : List Place) (from p asked : ℕ) : Type 0 where
-  pub below : p < 16
-  pub within : asked ≤ 16
-  pub rest : first_waiting places 16 from ≡ first_waiting places (16 - asked) p
-
-pub ask_first : (places : List Place) (turn : ℕ) → Asked places (turn % 16) (turn % 16) 0
-ask_first places turn = record { below = omega arith; within = omega arith; rest = refl }
+-- a search from one place on that has asked so many places: it goes on at the next one
+pub ask_first : (places : List Place) (from : ℕ) → from < 16 → first_waiting places 16 from ≡ first_waiting places (16 - 0) ((from + 0) % 16)
+ask_first places from h =
+    let e : (from + 0) % 16 ≡ from = omega arith in
+    rw e
 
 -- the place has something waiting, or the search goes on, or all places are done
-module _ {places : List Place} {from p asked : ℕ} (a : Asked places from p asked) where
+module _ (places : List Place) (from asked : ℕ) (rest : first_waiting places 16 from ≡ first_waiting places (16 - asked) ((from + asked) % 16)) where
   more : asked < 16 → 16 - asked ≡ suc (16 - (asked + 1))
   more l = omega arith
 
-  pub ask_waits : asked < 16 → ((get_or places p free_place).next_chunk ≡ 0 → ⊥) → some p ≡ first_waiting places 16 from
+  pub ask_waits : asked < 16 → ((get_or places ((from + asked) % 16) free_place).next_chunk ≡ 0 → ⊥)
+      → Some ((from + asked) % 16) ≡ first_waiting places 16 from
   unfolding first_waiting
-  ask_waits l w = rw (a.rest, more l, ne_eqb (get_or places p free_place).next_chunk 0 w)
+  ask_waits l w = rw (rest, more l, ne_eqb (get_or places ((from + asked) % 16) free_place).next_chunk 0 w)
 
-  pub ask_next : asked < 16 → (get_or places p free_place).next_chunk ≡ 0 → Asked places from ((p + 1) % 16) (asked + 1)
+  pub ask_next : asked < 16 → (get_or places ((from + asked) % 16) free_place).next_chunk ≡ 0
+      → first_waiting places 16 from ≡ first_waiting places (16 - (asked + 1)) ((from + (asked + 1)) % 16)
   unfolding first_waiting
   ask_next l f =
-      record {
-        below = omega arith;
-        within = omega arith;
-        rest = rw (a.rest, more l, eq-eqb (get_or places p free_place).next_chunk 0 f);
-      }
+      let e : ((from + asked) % 16 + 1) % 16 ≡ (from + (asked + 1)) % 16 = omega arith in
+      rw (rest, more l, eq-eqb (get_or places ((from + asked) % 16) free_place).next_chunk 0 f, e)
 
-  pub ask_nobody : 16 ≤ asked → none ≡ first_waiting places 16 from
+  pub ask_nobody : 16 ≤ asked → None ≡ first_waiting places 16 from
   unfolding first_waiting
   ask_nobody l =
       let z : 16 - asked ≡ 0 = omega arith in
-      rw (a.rest, z)
+      rw (rest, z)
+
+pub ruleset asks = (ask_first, ask_waits, ask_next, ask_nobody)
 
 -- ---- storing
 -- a store behind the first words, and one into the first of two lists
@@ -164,58 +148,32 @@ placed_words words p list k h l =
     ∙ ap (λ (r : List ℕ). put r (suc (place_words * p)) w) (storing_held words h)
     ∙ ap (λ (r : ℕ). put words r w) (sym e)
 
--- the stores of the code
-pub placed_stores : (words : List ℕ) (p : ℕ) {at : ℕ} (list : Outgoing) (k : ℕ) → HasPlaces words → p < 16 → at ≡ place_words_at p
-    → set
-    (set
-    (set
-    (set
-    (set
-    (set
-    (set words (at + 0) list.header_at)
-    (at + 1) list.header_len)
-    (at + 2) list.body_at)
-    (at + 3) list.body_len)
-    (at + 4) list.request_id)
-    (at + 5) list.max_sysex)
-    (at + 6) k
-    ≡ placed p list k words
-unfolding put words_of
-placed_stores words p {at} list k h l e =
-    let e1 : at + 1 ≡ suc at = omega arith in
-    let e2 : at + 2 ≡ suc (suc at) = omega arith in
-    let e3 : at + 3 ≡ suc (suc (suc at)) = omega arith in
-    let e4 : at + 4 ≡ suc (suc (suc (suc at))) = omega arith in
-    let e5 : at + 5 ≡ suc (suc (suc (suc (suc at)))) = omega arith in
-    let e6 : at + 6 ≡ suc (suc (suc (suc (suc (suc at))))) = omega arith in
-    let s : put words at (words_of (holding list k ∷ [])) ≡ placed p list k words
-    = ap (λ (n : ℕ). put words n (words_of (holding list k ∷ []))) e ∙ sym (placed_words words p list k h l) in
-    rw (add-zero at, e1, e2, e3, e4, e5, e6) s
+-- where the code puts them
+pub placed_stores : (words : List ℕ) (p at : ℕ) (list : Outgoing) (k : ℕ) → HasPlaces words → p < 16 → at ≡ place_words_at p
+    → splice at 7 words (words_of (holding list k ∷ [])) ≡ placed p list k words
+placed_stores words p at list k h l e =
+    let ws = words_of (holding list k ∷ []) in
+    let n : length ws ≡ 7 = omega (arith, words_length (holding list k ∷ [])) in
+    rw e
+    (ap (λ (r : List ℕ). take (place_words_at p) words ++ (ws ++ r))
+    (drop-drop 7 (place_words_at p) words ∙ ap (λ (m : ℕ). drop (place_words_at p + m) words) (sym n))
+    ∙ sym (append_assoc (take (place_words_at p) words) ws (drop (place_words_at p + length ws) words))
+    ∙ sym (put_is words (place_words_at p) ws (omega arith))
+    ∙ sym (placed_words words p list k h l))
 
 -- ---- an empty stage
--- one word more, and all words of the stage
-pub zero_next : (w : List ℕ) (i : ℕ) → set (put w 0 (replicate i 0)) i 0 ≡ put w 0 (replicate (i + 1) 0)
-zero_next w i =
-    put_one (put w 0 (replicate i 0)) i 0
-    ∙ put_put w 0 (replicate i 0) (0 ∷ []) i (let l : length (replicate {A = ℕ} i 0) ≡ i = length-replicate i 0 in omega arith)
-    ∙ ap (λ (l : List ℕ). put w 0 l) (replicate-append-replicate i 1 0)
-
-pub zero_stage : (words : List ℕ) (i : ℕ) → HasPlaces words → i ≤ stage_words → stage_words ≤ i
-    → put words 0 (replicate i 0) ≡ replicate stage_words 0 ++ drop stage_words words
-zero_stage words i h k l =
-    let e : i ≡ stage_words = omega arith in
-    ap (λ (n : ℕ). put words 0 (replicate n 0)) e ∙ put_front words (replicate stage_words 0) h
-
 -- the words of a stage that is empty are 0
 pub zero_empty : (words : List ℕ) → replicate stage_words 0 ++ drop stage_words words ≡ storing empty words
 unfolding words_of
 zero_empty words = refl
 
 -- `new` in memory that is long enough, and in other memory
-pub new_made : (words : List ℕ) {left : List ℕ} → HasPlaces words → left ≡ replicate stage_words 0 ++ drop stage_words words
-    → kept (granted 0) left ≡ new_call words
+pub new_made : (words zeros : List ℕ) → HasPlaces words → zeros ≡ replicate (length (take stage_words words)) 0
+    → kept (granted 0) (zeros ++ drop stage_words words) ≡ new_call words
 unfolding new_call
-new_made words h e = rw (le-leb stage_words (length words) h, e) (ap (λ (l : List ℕ). kept (granted 0) l) (zero_empty words))
+new_made words zeros h e =
+    let n : length (take stage_words words) ≡ stage_words = simp length-take (omega arith) in
+    rw (le-leb stage_words (length words) h, e, n) (ap (λ (l : List ℕ). kept (granted 0) l) (zero_empty words))
 
 pub new_short : (words : List ℕ) → length words < stage_words → kept (refused 30 0) words ≡ new_call words
 unfolding new_call

@@ -1,10 +1,9 @@
 -- The outgoing stage (document 02, K8): 16 places and a turn, free of how they lie in memory, and its two calls.
 -- Assumes nothing.
-use Rattle.std.specs.Prelude.{ℕ, zero, suc, ◌+◌, ◌%◌, Bool, cond, ◌&&◌, List, leb, ltb, eqb, length, get_or, set, replicate}
-use Rattle.std.proofs.Math.Option.{Option, none, some}
+use Rattle.std.specs.Prelude.{ℕ, zero, suc, ◌+◌, ◌%◌, min, Bool, cond, ◌&&◌, List, leb, ltb, eqb, length, get_or, set, replicate, Option, Some, None}
 use Rattle.seven_bit.specs.Reply.{Reply, granted, refused, ◌else◌then◌, and_next}
 use Rattle.seven_bit.specs.Parts.{part}
-use Rattle.pe_chunker.specs.Cut.{body_pieces, cut_count, cut_chunk}
+use Rattle.pe_chunker.specs.Cut.{max_sysex_max, body_pieces, cut_count, cut_chunk}
 use Rattle.pe_stage.specs.declared.place.Outgoing.{Outgoing}
 
 -- A place: "one list being cut", as `Outgoing` notes "where in one lent buffer its header and body lie" and what the cutter wants besides; and the
@@ -59,6 +58,19 @@ chunk_in buffer list k room =
     is_inside buffer list else 30 then
     cut_chunk list.request_id (header_in buffer list) (body_in buffer list) list.max_sysex k room
 
+-- A list as the cutter is lent it. A request id and a limit that do not fit there are brought down to what it answers alike.
+pub record Lent : Type 0 where
+  pub request_id : ℕ
+  pub header : List ℕ
+  pub body : List ℕ
+  pub max_sysex : ℕ
+
+abbrev pub lent : ℕ → List ℕ → List ℕ → ℕ → Lent
+lent request_id header body max_sysex = record { request_id = request_id; header = header; body = body; max_sysex = max_sysex }
+
+abbrev pub lent_in : List ℕ → Outgoing → Lent
+lent_in buffer list = lent (min list.request_id 255) (header_in buffer list) (body_in buffer list) (min list.max_sysex max_sysex_max)
+
 -- How many chunks the cutter's definition has of it.
 abbrev pub chunks_in : List ℕ → Outgoing → ℕ
 chunks_in buffer list = length (body_pieces list.max_sysex (length (header_in buffer list)) (body_in buffer list))
@@ -79,9 +91,9 @@ after_join s p list (refused number value) = s
 -- ---- a turn
 -- "the next place, going round from place 0, that has something waiting": the first of so many places from one on.
 unfoldable pub first_waiting : List Place → ℕ → ℕ → Option ℕ
-first_waiting places zero from = none
+first_waiting places zero from = None
 first_waiting places (suc more) from =
-    cond (is_free (get_or places from free_place)) (first_waiting places more ((from + 1) % 16)) (some from)
+    cond (is_free (get_or places from free_place)) (first_waiting places more ((from + 1) % 16)) (Some from)
 
 abbrev pub next_waiting : Stage → Option ℕ
 next_waiting s = first_waiting s.places 16 (s.turn % 16)
@@ -107,8 +119,8 @@ ask_chunk buffer room place =
     (λ bytes. granted (written place.next_chunk (chunks_in buffer place.list) bytes))
 
 abbrev pub ask_at : Stage → List ℕ → ℕ → Option ℕ → Reply Handout
-ask_at s buffer room none = granted nobody
-ask_at s buffer room (some p) = and_next (ask_chunk buffer room (place_at s p)) (λ w. granted (hands p w))
+ask_at s buffer room None = granted nobody
+ask_at s buffer room (Some p) = and_next (ask_chunk buffer room (place_at s p)) (λ w. granted (hands p w))
 
 unfoldable pub ask_turn : Stage → List ℕ → ℕ → Reply Handout
 ask_turn s buffer room = ask_at s buffer room (next_waiting s)

@@ -1,15 +1,11 @@
 -- How the stage lies in lent numbers, one for whose turn is next and seven for each of 16 places, and its calls over them.
 -- Assumes nothing.
-use Rattle.std.specs.Prelude.{ℕ, zero, suc, ◌+◌, ◌*◌, ◌%◌, ◌≤◌, List, [], ◌∷◌, ◌++◌, leb, length, get_or, drop, set}
-use Rattle.std.proofs.Math.Option.{Option, none, some}
+use Rattle.std.specs.Prelude.{ℕ, zero, suc, ◌+◌, ◌*◌, ◌%◌, ◌≤◌, List, [], ◌∷◌, ◌++◌, leb, length, get_or, drop, set, Option, Some, None, Result, ⊤}
 use Rattle.seven_bit.specs.Reply.{Reply, granted, refused, ◌else◌then◌}
 use Rattle.pe_stage.specs.declared.Handed.{Handed}
-use Rattle.pe_stage.specs.declared.Joined.{Joined}
-use Rattle.pe_stage.specs.declared.Made.{Made}
-use Rattle.pe_stage.specs.declared.Turned.{Turned}
 use Rattle.pe_stage.specs.declared.place.Outgoing.{Outgoing}
-use Rattle.pe_stage.specs.declared.place.NextPlace.{NextPlace}
-use Rattle.pe_stage.specs.Errors.{stage_refused}
+use Rattle.pe_stage.specs.declared.error.StageError.{StageError}
+use Rattle.pe_stage.specs.Errors.{stage_told}
 use Rattle.pe_stage.specs.Stage.{Place, holding, Stage, stage, empty, ask_join, after_join, Handout, nobody, hands, ask_turn, after_turn}
 
 abbrev pub place_words : ℕ
@@ -99,9 +95,9 @@ turn_left answer words out = record { answer = answer; words = words; out = out 
 
 -- A chunk takes the front of the output, and the bytes past it keep their values; else both are as they were.
 abbrev pub turning : Reply Handout → List ℕ → List ℕ → TurnLeft
-turning (granted nobody) words out = turn_left (granted none) words out
+turning (granted nobody) words out = turn_left (granted None) words out
 turning (granted (hands p w)) words out =
-    turn_left (granted (some (record { place = p; chunk_num = w.number; num_chunks = w.count; len = length w.bytes })))
+    turn_left (granted (Some (record { place = p; chunk_num = w.number; num_chunks = w.count; len = length w.bytes })))
     (storing (after_turn (stage_in words) (granted (hands p w))) words)
     (w.bytes ++ drop (length w.bytes) out)
 turning (refused number value) words out = turn_left (refused number value) words out
@@ -110,22 +106,12 @@ unfoldable pub turn_call : List ℕ → List ℕ → List ℕ → TurnLeft
 turn_call words buffer out = turning (leb stage_words (length words) else 30 then ask_turn (stage_in words) buffer (length out)) words out
 
 -- ---- the code's answers
-abbrev pub made_told : Made → Reply ℕ
-made_told Made.Done = granted 0
-made_told (Made.Refused e) = stage_refused e
+-- Nothing is counted.
+abbrev pub made_told : Result ⊤ StageError → Reply ℕ
+made_told r = stage_told (λ _. 0) r
 
-abbrev pub joined_told : Joined → Reply ℕ
-joined_told (Joined.Chunks n) = granted n
-joined_told (Joined.Refused e) = stage_refused e
-
-abbrev pub turned_told : Turned → Reply (Option Handed)
-turned_told (Turned.Hands h) = granted (some h)
-turned_told Turned.Nobody = granted none
-turned_told (Turned.Refused e) = stage_refused e
-
-abbrev pub next_told : NextPlace → Option ℕ
-next_told (NextPlace.At p) = some p
-next_told NextPlace.Nobody = none
+abbrev pub turned_told : Result (Option Handed) StageError → Reply (Option Handed)
+turned_told r = stage_told (λ handed. handed) r
 
 -- ---- what the private functions leave of lent numbers that are long enough
 -- A list at place p, with the number of its next chunk.

@@ -3,8 +3,9 @@ ghost use Rattle.std.specs.Prelude.{◌≡◌};
 ghost use Rattle.pe_stage.specs.Errors.{stage_number, stage_value};
 
 use pe_wire::error::PeError;
+use seven_bit::refusal::Refusal;
 
-#[derive(Clone, Copy)]
+#[derive(Clone, Copy, Debug, PartialEq, Eq)]
 pub enum StageError {
     // A place above 15.
     NoSuchPlace,
@@ -14,11 +15,23 @@ pub enum StageError {
     Pe(PeError),
 }
 
-impl StageError {
+impl From<PeError> for StageError {
+    ghost use Rattle.pe_stage.specs.declared.error.StageError.TheVariants.{Pe};
+
+    ghost from_gives = { λ e r. r ≡ Pe e };
+
+    fn from(e: PeError) -> StageError {
+        StageError::Pe(e)
+    }
+}
+
+impl Refusal for StageError {
+    ghost number = { stage_number };
+
+    ghost value = { stage_value };
+
     // Document 02's number, or document 01's.
-    pub fn number(self) -> u8
-        ensures { result ≡ stage_number self }
-    {
+    fn number(self) -> u8 {
         match self {
             StageError::NoSuchPlace => 38,
             StageError::PlaceBusy => 39,
@@ -26,14 +39,10 @@ impl StageError {
         }
     }
 
-    // What the number carries.
-    pub fn value(self) -> u8
-        ensures { result ≡ stage_value self }
-    {
+    fn value(self) -> u8 {
         match self {
-            StageError::NoSuchPlace => 0,
-            StageError::PlaceBusy => 0,
             StageError::Pe(e) => e.value(),
+            _ => 0,
         }
     }
 }

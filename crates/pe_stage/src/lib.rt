@@ -6,33 +6,19 @@ mod cut;
 pub mod error;
 pub mod place;
 
-ghost use Rattle.std.specs.Prelude.{cond, ◌++◌, ◌≡◌, ◌+◌, ◌<◌, ltb, drop, replicate};
-ghost use Rattle.pe_stage.specs.Words.{HasPlaces, stage_words, moved_on, kept, new_call, join_call, turn_left, turn_call};
-ghost use Rattle.pe_stage.specs.Words.{made_told, joined_told, turned_told};
+ghost use Rattle.std.specs.Prelude.{cond, ◌≡◌, ◌+◌, ◌<◌, ltb};
+ghost use Rattle.pe_stage.specs.Words.{HasPlaces, moved_on, kept, made_told, new_call, join_call};
+ghost use Rattle.pe_stage.specs.Words.{turn_left, turned_told, turn_call};
+ghost use Rattle.pe_stage.specs.Errors.{stage_count};
 
 use crate::cut::{chunk_in, count_in};
 use crate::error::StageError;
 use crate::place::{
-    NextPlace, Outgoing, PLACES, STAGE_WORDS, TURN, list_at, next_chunk, next_waiting, put_place,
+    Outgoing, PLACES, Place, STAGE_WORDS, TURN, check_memory, next_waiting, place_at, put_place,
 };
-use pe_chunker::{ChunkCount, Counted};
-use pe_wire::error::PeError;
-
-#[derive(Clone, Copy)]
-pub enum Made {
-    Done,
-    Refused(StageError),
-}
-
-// How many chunks will leave.
-#[derive(Clone, Copy)]
-pub enum Joined {
-    Chunks(u16),
-    Refused(StageError),
-}
 
 // What a turn hands out: the place, the number of its chunk, their count, and the bytes that the chunk has in the lent output.
-#[derive(Clone, Copy)]
+#[derive(Clone, Copy, Debug, PartialEq, Eq)]
 pub struct Handed {
     pub place: usize,
     pub chunk_num: u16,
@@ -40,103 +26,86 @@ pub struct Handed {
     pub len: usize,
 }
 
-#[derive(Clone, Copy)]
-pub enum Turned {
-    Hands(Handed),
-    Nobody,
-    Refused(StageError),
-}
-
-// Fills the words of a stage with 0.
-fn clear(stage: &mut [u64])
-    requires { HasPlaces stage.old }
-    ensures { stage.new ≡ replicate stage_words 0 ++ drop stage_words stage.old }
-{
-    let mut i = 0;
-    while i < STAGE_WORDS {
-        stage[i] = 0;
-        i += 1;
-    }
-}
-
 // Makes an empty stage in the lent memory; what lies past it keeps its values.
-pub fn new(stage: &mut [u64]) -> Made
+#[tactic(auto, using(crate::proofs::WordLaws::new_made, crate::proofs::WordLaws::new_short))]
+pub fn new(stage: &mut [u64]) -> Result<(), StageError>
     ensures { kept (made_told result) stage.new ≡ new_call stage.old }
 {
-    if stage.len() < STAGE_WORDS {
-        return Made::Refused(StageError::Pe(PeError::BadShape));
-    }
-    clear(stage);
-    Made::Done
+    check_memory(stage)?;
+    stage[..STAGE_WORDS].fill(0);
+    Ok(())
 }
 
-// A list of the buffer joins at a place.
-pub fn join(stage: &mut [u64], buffer: &[u8], place: u64, list: Outgoing) -> Joined
-    ensures { kept (joined_told result) stage.new ≡ join_call stage.old buffer.now place list }
+// A list of the buffer joins at a place: how many chunks will leave.
+#[tactic(auto, using(crate::proofs::CallLaws::joins))]
+pub fn join(stage: &mut [u64], buffer: &[u8], place: u64, list: Outgoing) -> Result<u16, StageError>
+    ensures { kept (stage_count result) stage.new ≡ join_call stage.old buffer.now place list }
 {
-    if stage.len() < STAGE_WORDS {
-        return Joined::Refused(StageError::Pe(PeError::BadShape));
-    }
+    check_memory(stage)?;
     if place >= PLACES as u64 {
-        return Joined::Refused(StageError::NoSuchPlace);
+        return Err(StageError::NoSuchPlace);
     }
     let p = place as usize;
-    if next_chunk(stage, p) != 0 {
-        return Joined::Refused(StageError::PlaceBusy);
+    if !place_at(stage, p).is_free() {
+        return Err(StageError::PlaceBusy);
     }
-    match count_in(buffer, list) {
-        ChunkCount::Chunks(n) => {
-            put_place(stage, p, list, 1);
-            Joined::Chunks(n)
-        }
-        ChunkCount::Refused(e) => Joined::Refused(StageError::Pe(e)),
-    }
+    let count = count_in(buffer, list)?;
+    put_place(
+        stage,
+        p,
+        Place {
+            list,
+            next_chunk: 1,
+        },
+    );
+    Ok(count)
 }
 
 // The number of the chunk that leaves after one, 0 after the last.
 fn following(chunk_num: u64, num_chunks: u16) -> u64
-    requires { chunk_num < 65536 }
     ensures { result ≡ cond (ltb chunk_num num_chunks) (chunk_num + 1) 0 }
 {
     if chunk_num < num_chunks as u64 {
-        return chunk_num + 1;
+        chunk_num + 1
+    } else {
+        0
     }
-    0
 }
 
-// After a chunk has left from a place: its next one, or nobody; and the next turn asks the place after this one first.
-fn move_on(stage: &mut [u64], p: usize, list: Outgoing, next_chunk: u64)
+// Stores a place from which a chunk has left; the next turn asks the place after this one first.
+fn move_on(stage: &mut [u64], p: usize, place: Place)
     requires { HasPlaces stage.old × (p < 16) }
-    ensures { stage.new ≡ moved_on p list next_chunk stage.old }
+    ensures { stage.new ≡ moved_on p place.list place.next_chunk stage.old }
 {
-    put_place(stage, p, list, next_chunk);
+    put_place(stage, p, place);
     stage[TURN] = ((p + 1) % PLACES) as u64;
 }
 
-// Writes the next chunk of the next list that waits into out.
-pub fn turn(stage: &mut [u64], buffer: &[u8], out: &mut [u8]) -> Turned
+// Writes the next chunk of the next list that waits into out; none where nobody waits.
+#[tactic(auto, using(crate::proofs::CallLaws::turn_short, crate::proofs::CallLaws::turn_nobody, crate::proofs::CallLaws::next_within))]
+pub fn turn(stage: &mut [u64], buffer: &[u8], out: &mut [u8]) -> Result<Option<Handed>, StageError>
     ensures { turn_left (turned_told result) stage.new out.new
         ≡ turn_call stage.old buffer.now out.old }
 {
-    if stage.len() < STAGE_WORDS {
-        return Turned::Refused(StageError::Pe(PeError::BadShape));
-    }
-    let p = match next_waiting(stage) {
-        NextPlace::At(p) => p,
-        NextPlace::Nobody => return Turned::Nobody,
+    check_memory(stage)?;
+    let Some(p) = next_waiting(stage) else {
+        return Ok(None);
     };
-    let list = list_at(stage, p);
-    let chunk_num = next_chunk(stage, p);
-    match chunk_in(buffer, list, chunk_num, out) {
-        Counted::Wrote(num_chunks, len) => {
-            move_on(stage, p, list, following(chunk_num, num_chunks));
-            Turned::Hands(Handed {
-                place: p,
-                chunk_num: chunk_num as u16,
-                num_chunks,
-                len,
-            })
-        }
-        Counted::Refused(e) => Turned::Refused(StageError::Pe(e)),
-    }
+    let place = place_at(stage, p);
+    let chunk = chunk_in(buffer, place.list, place.next_chunk, out)?;
+    let next_chunk = following(place.next_chunk, chunk.num_chunks);
+    move_on(
+        stage,
+        p,
+        Place {
+            next_chunk,
+            ..place
+        },
+    );
+    Ok(Some(Handed {
+        place: p,
+        chunk_num: place.next_chunk as u16,
+        num_chunks: chunk.num_chunks,
+        len: chunk.len,
+    }))
 }

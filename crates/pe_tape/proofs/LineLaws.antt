@@ -4,13 +4,13 @@ use Prim.Native.Nat.{ℕ, suc, ◌+◌, ◌/◌, ◌%◌, ◌≤◌, ◌<◌}
 use native.Mathlib.Omega.{arith}
 use mathlib.Core.List.{List, [], ◌∷◌, ◌++◌}
 use mathlib.Core.Path.{◌≡◌, refl, sym, ap, ◌∙◌}
-use lib.ListN.{length, set, length-set, length-append}
+use lib.ListN.{length, set, length-append}
 use Rattle.seven_bit.specs.Parts.{put}
 use Rattle.seven_bit.proofs.PartLaws.{put_one, put_put}
 use Rattle.pe_tape.specs.Number.{decimal}
 use Rattle.pe_tape.specs.Line.{Shown, marked, whole, shown_text, line_text, end_text}
 use Rattle.pe_tape.specs.declared.error.TapeError.{TapeError}
-use Rattle.pe_tape.specs.Told.{tape_number, tape_refused}
+use Rattle.pe_tape.specs.Errors.{tape_number, tape_refused}
 use Rattle.pe_tape.proofs.NumberLaws.{decimal_one, decimal_more, decimal_length}
 
 -- a byte behind a text
@@ -54,10 +54,6 @@ last_digit_put out after at n last h e p =
 two_front : (out : List ℕ) (at a b : ℕ) (text : List ℕ) → put (set (set out at a) (at + 1) b) (at + 2) text ≡ put out at (a ∷ b ∷ text)
 two_front out at a b text =
     put_front_byte (set out at a) (at + 1) b text (at + 2) (omega arith) ∙ put_front_byte out at a (b ∷ text) (at + 1) refl
-
--- what they leave is as long
-pub two_long : (out : List ℕ) (at a b : ℕ) → length (set (set out at a) (at + 1) b) ≡ length out
-two_long out at a b = length-set (set out at a) (at + 1) b ∙ length-set out at a
 
 -- a letter and a number
 pub marked_length : (n : ℕ) → length (shown_text (marked n)) ≡ 1 + length (decimal n)

@@ -9,7 +9,6 @@ use native.Mathlib.Omega.{arith}
 use borrow.Author.Tests.{lt-ltb, le-ltb, ltb-true, ltb-false}
 use lib.Dec.{ltb}
 use lib.ListN.{length, get_or, take, drop, length-append}
-use lib.Seq.{drop-drop, take-add}
 use Rattle.seven_bit.specs.Parts.{part}
 use Rattle.seven_bit.proofs.PartLaws.{length_part}
 use Rattle.pe_tape.specs.Number.{operand_of, operand_bytes, AreBytes, digits, decimal}
@@ -105,10 +104,3 @@ operand_append [] ys = omega arith
 operand_append (x ∷ xs) ys =
     let ih : operand_of (xs ++ ys) ≡ operand_of xs + 256 ^ length xs * operand_of ys = operand_append xs ys in
     rw (pow-succ' 256 (length xs)) (omega arith)
-
-pub operand_halves : (k at : ℕ) (s : List ℕ) → at + (k + k) ≤ length s
-    → operand_of (part at (k + k) s) ≡ operand_of (part at k s) + 256 ^ k * operand_of (part (at + k) k s)
-operand_halves k at s h =
-    ap operand_of (take-add k k (drop at s))
-    ∙ operand_append (part at k s) (part k k (drop at s))
-    ∙ rw (length_part at k s (omega arith), drop-drop k at s)

@@ -4,7 +4,7 @@ use Prim.Native.Nat.{ℕ, zero, suc, ◌+◌, ◌-◌, ◌≤◌, ◌<◌}
 use mathlib.Core.Bool.{Bool, true, false}
 use mathlib.Core.List.{List, [], ◌∷◌, ◌++◌, append-nil, append_assoc}
 use mathlib.Core.Logic.{◌⊎◌, inl, inr}
-use mathlib.Core.Option.{Option, none, some}
+use Rattle.std.specs.Prelude.{Option, None, Some}
 use mathlib.Core.Path.{◌≡◌, refl, sym, ap, ◌∙◌}
 use native.Mathlib.Nat.{sub-zero}
 use native.Mathlib.Omega.{arith}
@@ -61,7 +61,7 @@ not_cut : (yes? : Bool) (r : Reply (Option Taken)) → ((yes? else 37 then r) �
 not_cut true r whole = (refl, whole)
 not_cut false r whole = absurd (whole refl)
 
-read_same : (xs ys : List ℕ) → (read_command xs ≡ granted none → ⊥) → (read_command xs ≡ refused 37 0 → ⊥) → read_command (xs ++ ys) ≡ read_command xs
+read_same : (xs ys : List ℕ) → (read_command xs ≡ granted None → ⊥) → (read_command xs ≡ refused 37 0 → ⊥) → read_command (xs ++ ys) ≡ read_command xs
 unfolding read_command read_feed read_cancel read_drop read_poll
 read_same [] ys there whole = absurd (there refl)
 read_same (b ∷ s) ys there whole =
@@ -76,24 +76,24 @@ read_same (b ∷ s) ys there whole =
     (λ (whole : refused 36 0 ≡ refused 37 0 → ⊥). refl)
     whole
 
-pub read_front : (xs ys : List ℕ) (t : Taken) → read_command xs ≡ granted (some t) → read_command (xs ++ ys) ≡ granted (some t)
+pub read_front : (xs ys : List ℕ) (t : Taken) → read_command xs ≡ granted (Some t) → read_command (xs ++ ys) ≡ granted (Some t)
 read_front xs ys t q =
     read_same xs ys
-    (λ (e : read_command xs ≡ granted none). let z : ◌≡◌ {A = ℕ} 0 1 = cc in omega arith)
+    (λ (e : read_command xs ≡ granted None). let z : ◌≡◌ {A = ℕ} 0 1 = cc in omega arith)
     (λ (e : read_command xs ≡ refused 37 0). let z : ◌≡◌ {A = ℕ} 0 1 = cc in omega arith)
     ∙ q
 
 pub unknown_front : (xs ys : List ℕ) → read_command xs ≡ refused 36 0 → read_command (xs ++ ys) ≡ refused 36 0
 unknown_front xs ys q =
     read_same xs ys
-    (λ (e : read_command xs ≡ granted none). let z : ◌≡◌ {A = ℕ} 0 1 = cc in omega arith)
+    (λ (e : read_command xs ≡ granted None). let z : ◌≡◌ {A = ℕ} 0 1 = cc in omega arith)
     (λ (e : read_command xs ≡ refused 37 0). let z : ◌≡◌ {A = ℕ} 36 37 = cc in omega arith)
     ∙ q
 
 -- ---- what reading gives: nothing, a command, or one of the two refusals
 data Reads : Reply (Option Taken) → Type 0 where
-  nothing : Reads (granted none)
-  got : (t : Taken) → Reads (granted (some t))
+  nothing : Reads (granted None)
+  got : (t : Taken) → Reads (granted (Some t))
   not_known : Reads (refused 36 0)
   cut : Reads (refused 37 0)
 
@@ -112,21 +112,21 @@ reads (b ∷ s) =
 
 -- what holds where a tape ends, and of a command in front of what holds, holds of every tape
 pub by_commands : (P : List ℕ → Type 0) → ((s : List ℕ) (end : Reply ℕ) → Ends s end → P s)
-    → ((s : List ℕ) (t : Taken) → read_command s ≡ granted (some t) → P (drop t.len s) → P s) → (s : List ℕ) → P s
+    → ((s : List ℕ) (t : Taken) → read_command s ≡ granted (Some t) → P (drop t.len s) → P s) → (s : List ℕ) → P s
 by_commands P over one s = from (length s) s (omega arith)
   where
     step : (s : List ℕ) {r : Reply (Option Taken)} → Reads r → read_command s ≡ r
-        → ((t : Taken) → read_command s ≡ granted (some t) → P (drop t.len s)) → P s
+        → ((t : Taken) → read_command s ≡ granted (Some t) → P (drop t.len s)) → P s
     step s nothing e below = over s (granted 0) (Ends.at_end (read_none s e))
     step s (got t) e below = one s t e (below t e)
     step s not_known e below = over s (refused 36 0) (Ends.unknown e)
     step s cut e below = over s (refused 37 0) (Ends.cut_off e)
 
     from : (k : ℕ) (s : List ℕ) → length s ≤ k → P s
-    from zero s h = step s (reads s) refl (λ (t : Taken) (e : read_command s ≡ granted (some t)). absurd (let l = read_len s t e in omega arith))
+    from zero s h = step s (reads s) refl (λ (t : Taken) (e : read_command s ≡ granted (Some t)). absurd (let l = read_len s t e in omega arith))
     from (suc k) s h =
         step s (reads s) refl
-        (λ (t : Taken) (e : read_command s ≡ granted (some t)).
+        (λ (t : Taken) (e : read_command s ≡ granted (Some t)).
         let l = read_len s t e in
         from k (drop t.len s) (simp length-drop (omega arith)))
 
@@ -148,7 +148,7 @@ left_refused (Ends.unknown e) = e
 left_refused (Ends.cut_off e) = e
 
 -- ---- a tape's text, one command after the other
-pub text_next : (m : Memory) (s : List ℕ) (t : Taken) → read_command s ≡ granted (some t)
+pub text_next : (m : Memory) (s : List ℕ) (t : Taken) → read_command s ≡ granted (Some t)
     → text_of m s ≡ line_of m t.command ++ text_of (make_call m t.command).memory (drop t.len s)
 unfolding text_of lines_of
 text_next m s t e = rw (tape_next s t e, append_assoc)
@@ -160,18 +160,18 @@ text_refused m s number e = rw (tape_refused s number 0 e)
 -- ---- what holds where playing stops, and of a command in front of what is played next, holds of playing a tape
 pub by_play : (P : Memory → List ℕ → ℕ → Played → Type 0)
     → ((m : Memory) (s : List ℕ) (room : ℕ) (stop : Reply ℕ) → Stops s room stop → P m s room (stopped m stop))
-    → ((m : Memory) (s : List ℕ) (room : ℕ) (t : Taken) (p : Played) → read_command s ≡ granted (some t) → line_len ≤ room
+    → ((m : Memory) (s : List ℕ) (room : ℕ) (t : Taken) (p : Played) → read_command s ≡ granted (Some t) → line_len ≤ room
     → P (make_call m t.command).memory (drop t.len s) (room - length (line_of m t.command)) p → P m s room (before (line_of m t.command) t.len p))
     → (m : Memory) (s : List ℕ) (room : ℕ) → P m s room (play_bytes m s room)
 by_play P stops one m s room =
     by_commands (λ (s : List ℕ). (m : Memory) (room : ℕ) → P m s room (play_bytes m s room))
     (λ (s : List ℕ) (end : Reply ℕ) (h : Ends s end) (m : Memory) (room : ℕ). rw (play_ends m room h) (stops m s room end (Stops.ends h)))
-    (λ (s : List ℕ) (t : Taken) (e : read_command s ≡ granted (some t))
+    (λ (s : List ℕ) (t : Taken) (e : read_command s ≡ granted (Some t))
     (below : (m : Memory) (room : ℕ) → P m (drop t.len s) room (play_bytes m (drop t.len s) room)) (m : Memory) (room : ℕ).
     next s t e below m room (both (leb line_len room)))
     s m room
   where
-    next : (s : List ℕ) (t : Taken) → read_command s ≡ granted (some t)
+    next : (s : List ℕ) (t : Taken) → read_command s ≡ granted (Some t)
         → ((m : Memory) (room : ℕ) → P m (drop t.len s) room (play_bytes m (drop t.len s) room)) → (m : Memory) (room : ℕ)
         → (leb line_len room ≡ true) ⊎ (leb line_len room ≡ false) → P m s room (play_bytes m s room)
     next s t e below m room (inl h) = rw (play_next m s room t e h) (one m s room t _ e (leb-true line_len room h) (below _ _))
@@ -189,7 +189,7 @@ play_on m xs ys room =
     (λ (m : Memory) (s : List ℕ) (room : ℕ) (stop : Reply ℕ) (h : Stops s room stop). ap (λ (l : List ℕ). text_of m (l ++ ys)) (sym (drop_none s)))
     one m xs room
   where
-    one : (m : Memory) (s : List ℕ) (room : ℕ) (t : Taken) (p : Played) → read_command s ≡ granted (some t) → line_len ≤ room
+    one : (m : Memory) (s : List ℕ) (room : ℕ) (t : Taken) (p : Played) → read_command s ≡ granted (Some t) → line_len ≤ room
         → text_of (make_call m t.command).memory (drop t.len s ++ ys) ≡ p.text ++ text_of p.memory (drop p.used (drop t.len s) ++ ys)
         → text_of m (s ++ ys) ≡ (line_of m t.command ++ p.text) ++ text_of p.memory (drop (t.len + p.used) s ++ ys)
     one m s room t p e h below =
@@ -200,7 +200,7 @@ play_on m xs ys room =
         ∙ rw (drop-drop p.used t.len s, append_assoc)
 
 -- the same of the table
-memory_next : (m : Memory) (s : List ℕ) (t : Taken) → read_command s ≡ granted (some t)
+memory_next : (m : Memory) (s : List ℕ) (t : Taken) → read_command s ≡ granted (Some t)
     → memory_of m s ≡ memory_of (make_call m t.command).memory (drop t.len s)
 unfolding memory_after
 memory_next m s t e = rw (tape_next s t e)
@@ -210,7 +210,7 @@ pub memory_on : (m : Memory) (xs ys : List ℕ) (room : ℕ)
 memory_on m xs ys room =
     by_play (λ (m : Memory) (s : List ℕ) (room : ℕ) (p : Played). memory_of m (s ++ ys) ≡ memory_of p.memory (drop p.used s ++ ys))
     (λ (m : Memory) (s : List ℕ) (room : ℕ) (stop : Reply ℕ) (h : Stops s room stop). ap (λ (l : List ℕ). memory_of m (l ++ ys)) (sym (drop_none s)))
-    (λ (m : Memory) (s : List ℕ) (room : ℕ) (t : Taken) (p : Played) (e : read_command s ≡ granted (some t)) (h : line_len ≤ room)
+    (λ (m : Memory) (s : List ℕ) (room : ℕ) (t : Taken) (p : Played) (e : read_command s ≡ granted (Some t)) (h : line_len ≤ room)
     (below : memory_of (make_call m t.command).memory (drop t.len s ++ ys) ≡ memory_of p.memory (drop p.used (drop t.len s) ++ ys)).
     memory_next m (s ++ ys) t (read_front s ys t e)
     ∙ ap (memory_of (make_call m t.command).memory) (drop-append-le t.len s ys (read_len s t e).1)
@@ -224,7 +224,7 @@ pub stops : (m : Memory) (xs : List ℕ) (room : ℕ)
 stops =
     by_play (λ (m : Memory) (s : List ℕ) (room : ℕ) (p : Played). Stops (drop p.used s) (room - length p.text) p.stop)
     (λ (m : Memory) (s : List ℕ) (room : ℕ) (stop : Reply ℕ) (h : Stops s room stop). rw (drop_none s, sub-zero room) h)
-    (λ (m : Memory) (s : List ℕ) (room : ℕ) (t : Taken) (p : Played) (e : read_command s ≡ granted (some t)) (h : line_len ≤ room)
+    (λ (m : Memory) (s : List ℕ) (room : ℕ) (t : Taken) (p : Played) (e : read_command s ≡ granted (Some t)) (h : line_len ≤ room)
     (below : Stops (drop p.used (drop t.len s)) (room - length (line_of m t.command) - length p.text) p.stop).
     let r : room - length (line_of m t.command ++ p.text) ≡ room - length (line_of m t.command) - length p.text =
     omega (arith, length-append (line_of m t.command) p.text) in
@@ -292,7 +292,7 @@ all_played =
     by_play (λ (m : Memory) (s : List ℕ) (room : ℕ) (p : Played). (p.stop ≡ refused 3 0 → ⊥) → PlaysAll m s p)
     (λ (m : Memory) (s : List ℕ) (room : ℕ) (stop : Reply ℕ) (h : Stops s room stop) (n : stop ≡ refused 3 0 → ⊥).
     plays_all m s (stopped m stop) (ended stop s) (tape_ends (ends_there h n)) refl refl refl (drop_none s))
-    (λ (m : Memory) (s : List ℕ) (room : ℕ) (t : Taken) (p : Played) (e : read_command s ≡ granted (some t)) (h : line_len ≤ room)
+    (λ (m : Memory) (s : List ℕ) (room : ℕ) (t : Taken) (p : Played) (e : read_command s ≡ granted (Some t)) (h : line_len ≤ room)
     (below : (p.stop ≡ refused 3 0 → ⊥) → PlaysAll (make_call m t.command).memory (drop t.len s) p) (n : p.stop ≡ refused 3 0 → ⊥).
     let b = below n in
     plays_all m s (before (line_of m t.command) t.len p) (with_command t.command (tape_of (drop t.len s))) (tape_next s t e)
@@ -305,7 +305,7 @@ room_enough =
     by_play (λ (m : Memory) (s : List ℕ) (room : ℕ) (p : Played). line_len + length (lines_of m (tape_of s).commands) ≤ room → p.stop ≡ refused 3 0 → ⊥)
     (λ (m : Memory) (s : List ℕ) (room : ℕ) (stop : Reply ℕ) (h : Stops s room stop) (r : line_len + length (lines_of m (tape_of s).commands) ≤ room).
     there h (omega arith))
-    (λ (m : Memory) (s : List ℕ) (room : ℕ) (t : Taken) (p : Played) (e : read_command s ≡ granted (some t)) (h : line_len ≤ room)
+    (λ (m : Memory) (s : List ℕ) (room : ℕ) (t : Taken) (p : Played) (e : read_command s ≡ granted (Some t)) (h : line_len ≤ room)
     (below : line_len + length (lines_of (make_call m t.command).memory (tape_of (drop t.len s)).commands) ≤ room - length (line_of m t.command)
     → p.stop ≡ refused 3 0 → ⊥)
     (r : line_len + length (lines_of m (tape_of s).commands) ≤ room).
@@ -325,7 +325,7 @@ pub tape_append : (xs ys : List ℕ) → tape_of (xs ++ ys) ≡ followed_by (tap
 tape_append xs ys =
     by_commands (λ (s : List ℕ). tape_of (s ++ ys) ≡ followed_by (tape_of s) ys)
     (λ (s : List ℕ) (end : Reply ℕ) (h : Ends s end). ap behind (sym (tape_ends h)))
-    (λ (s : List ℕ) (t : Taken) (e : read_command s ≡ granted (some t)) (below : tape_of (drop t.len s ++ ys) ≡ followed_by (tape_of (drop t.len s)) ys).
+    (λ (s : List ℕ) (t : Taken) (e : read_command s ≡ granted (Some t)) (below : tape_of (drop t.len s ++ ys) ≡ followed_by (tape_of (drop t.len s)) ys).
     tape_next (s ++ ys) t (read_front s ys t e)
     ∙ ap (λ (x : List ℕ). with_command t.command (tape_of x)) (drop-append-le t.len s ys (read_len s t e).1)
     ∙ ap (with_command t.command) below
@@ -340,7 +340,7 @@ pub tape_rest : (s : List ℕ) → Ends (tape_of s).rest (tape_of s).end
 tape_rest =
     by_commands (λ (s : List ℕ). Ends (tape_of s).rest (tape_of s).end)
     (λ (s : List ℕ) (end : Reply ℕ) (h : Ends s end). rw (tape_ends h) h)
-    (λ (s : List ℕ) (t : Taken) (e : read_command s ≡ granted (some t)) (below : Ends (tape_of (drop t.len s)).rest (tape_of (drop t.len s)).end).
+    (λ (s : List ℕ) (t : Taken) (e : read_command s ≡ granted (Some t)) (below : Ends (tape_of (drop t.len s)).rest (tape_of (drop t.len s)).end).
     rw (tape_next s t e) below)
 
 -- behind an unknown command nothing is read

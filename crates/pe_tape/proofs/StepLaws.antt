@@ -1,14 +1,13 @@
 -- Playing one command after the other: what a step leaves, and what is known between two steps.
 -- Assumes nothing.
 use Prim.Native.Nat.{ℕ, ◌+◌, ◌-◌, ◌≤◌, ◌<◌}
-use native.Mathlib.Nat.{zero-add, add-zero, add_assoc}
+use native.Mathlib.Nat.{add-zero, add_assoc}
 use native.Mathlib.Omega.{arith}
 use mathlib.Core.Bool.{Bool, true, false, cond}
-use mathlib.Core.List.{List, [], ◌++◌, append-nil, append_assoc}
+use mathlib.Core.List.{List, ◌++◌, append-nil, append_assoc}
 use mathlib.Core.Logic.{◌⊎◌, inl, inr}
-use mathlib.Core.Option.{Option, none, some}
+use Rattle.std.specs.Prelude.{Option, None, Some, Ok}
 use mathlib.Core.Path.{◌≡◌, refl, sym, ap, ap₂, subst, ◌∙◌}
-use borrow.Author.Tests.{le-leb, lt-leb}
 use lib.Dec.{leb}
 use lib.ListN.{length, take, drop, length-drop, length-append, take-append-drop}
 use lib.Seq.{length-take-le, drop-drop, take_at, drop_at}
@@ -17,45 +16,15 @@ use Rattle.seven_bit.specs.Reply.{Reply, granted, refused}
 use Rattle.seven_bit.proofs.ReplyLaws.{both}
 use Rattle.seven_bit.proofs.PartLaws.{put_is, length_put}
 use Rattle.pe_reassembler.specs.Feed.{Memory}
-use Rattle.pe_tape.specs.declared.command.Command.{Command as TapeCommand}
-use Rattle.pe_tape.specs.declared.command.Command.TheVariants.{Feed, Cancel, Drop, Poll}
-use Rattle.pe_tape.specs.declared.error.TapeError.{TapeError}
-use Rattle.pe_tape.specs.declared.play.Step.{Step}
-use Rattle.pe_tape.specs.declared.play.Stop.{Stop}
+use Rattle.pe_tape.specs.declared.play.Line.{Line}
+use Rattle.pe_tape.specs.declared.play.Table.{Table}
+use Rattle.pe_tape.specs.Table.{SameRooms}
 use Rattle.pe_tape.specs.Command.{Taken, read_command}
-use Rattle.pe_tape.specs.Line.{Shown, line_text, line_len}
-use Rattle.pe_tape.specs.Play.{Called, called, make_call, kind_of, line_of, Played, stopped, before, play_bytes, play_left, playing, play_call}
-use Rattle.pe_tape.specs.Steps.{kind_told, Stepped, went, halted, step_told, StepLeft, step_left, play_step, InOutput}
-use Rattle.pe_tape.specs.Told.{command_of, tape_refused, Placed, placed, stop_told}
+use Rattle.pe_tape.specs.Line.{line_len}
+use Rattle.pe_tape.specs.Play.{make_call, line_of, Played, stopped, before, play_bytes, play_left, playing, play_call}
+use Rattle.pe_tape.specs.Steps.{Stepped, went, halted, step_told, StepLeft, step_left, play_step}
+use Rattle.pe_tape.specs.Told.{placed}
 use Rattle.pe_tape.proofs.PlayLaws.{read_len, play_end, play_refused, play_next, play_full}
-
--- the byte of a command, with its chunk or without
-pub same_kind : (source : List ℕ) (c : TapeCommand) → kind_told c ≡ kind_of (command_of source c)
-same_kind source (Feed f) = refl
-same_kind source (Cancel peer request_id) = refl
-same_kind source (Drop peer) = refl
-same_kind source (Poll now_ms) = refl
-
--- ---- one step
--- no room for a line
-pub step_full : (m : Memory) (p : Placed) (out : List ℕ) (written : ℕ) → length out - written < 46
-    → step_left (halted (refused 3 0)) m out ≡ play_step m (granted (some p)) out written
-step_full m p out written h = rw (lt-leb 46 (length out - written) h) refl
-
--- a command played, and its line put
-pub step_went : (m after : Memory) (p : Placed) (out out' : List ℕ) (written behind kind : ℕ) (s : Shown) → 46 ≤ length out - written
-    → called s after ≡ make_call m p.command → kind ≡ kind_of p.command → behind ≡ written + length (line_text kind s)
-    → out' ≡ put out written (line_text kind s) → step_left (went p.next behind) after out' ≡ play_step m (granted (some p)) out written
-step_went m after p out out' written behind kind s h e k b o =
-    let line : line_text kind s ≡ line_of m p.command = ap₂ line_text k (ap (λ (c : Called). c.shown) e) in
-    let place : behind ≡ written + length (line_of m p.command) = b ∙ ap (λ (t : List ℕ). written + length t) line in
-    rw (le-leb 46 (length out - written) h)
-    (ap (λ (n : ℕ). step_left (went p.next n) after out') place
-    ∙ ap₂ (step_left (went p.next (written + length (line_of m p.command)))) (ap (λ (c : Called). c.memory) e) (o ∙ ap (put out written) line))
-
--- a command that is not read
-pub step_refused : (m : Memory) (e : TapeError) (out : List ℕ) (written : ℕ) → step_left (halted (tape_refused e)) m out ≡ play_step m (tape_refused e) out written
-step_refused m e out written = refl
 
 -- ---- between two steps
 -- the text so far, in front of what playing the rest gives, is what playing the whole gives
@@ -67,9 +36,6 @@ pub record Going (m₀ : Memory) (tape out₀ : List ℕ) (m : Memory) (out : Li
   pub told : before (take written out) at (play_bytes m (drop at tape) (length out - written)) ≡ play_bytes m₀ tape (length out₀)
 
 -- text and bytes in front
-before_none : (p : Played) → before [] 0 p ≡ p
-before_none p = ap (λ (n : ℕ). record { text = p.text; memory = p.memory; used = n; stop = p.stop }) (zero-add p.used)
-
 before_before : (a b : List ℕ) (n k : ℕ) (p : Played) → before a n (before b k p) ≡ before (a ++ b) (n + k) p
 before_before a b n k p =
     ap₂ (λ (t : List ℕ) (u : ℕ). record { text = t; memory = p.memory; used = u; stop = p.stop })
@@ -79,22 +45,10 @@ before_stopped : (a : List ℕ) (n : ℕ) (m : Memory) (stop : Reply ℕ)
     → before a n (stopped m stop) ≡ record { text = a; memory = m; used = n; stop = stop }
 before_stopped a n m stop = ap₂ (λ (t : List ℕ) (u : ℕ). record { text = t; memory = m; used = u; stop = stop }) (append-nil a) (add-zero n)
 
--- before the first step
-pub going : (m₀ : Memory) (tape out₀ : List ℕ) → Going m₀ tape out₀ m₀ out₀ 0 0
-going m₀ tape out₀ =
-    let all : length out₀ - 0 ≡ length out₀ = omega arith in
-    record {
-      within = omega arith;
-      fits = omega arith;
-      long = refl;
-      untouched = refl;
-      told = before_none (play_bytes m₀ tape (length out₀ - 0)) ∙ ap (play_bytes m₀ tape) all;
-    }
-
 -- what was read where a step went on
 pub record Went (m : Memory) (tape out : List ℕ) (at written next behind : ℕ) (after : Memory) (out' : List ℕ) : Type 0 where
   pub taken : Taken
-  pub read : read_command (drop at tape) ≡ granted (some taken)
+  pub read : read_command (drop at tape) ≡ granted (Some taken)
   pub room : leb line_len (length out - written) ≡ true
   pub next_is : next ≡ at + taken.len
   pub behind_is : behind ≡ written + length (line_of m taken.command)
@@ -125,9 +79,9 @@ chosen m at t out written room =
 
 went_read : (m after : Memory) (tape out out' : List ℕ) (at written next behind : ℕ) (r : Reply (Option Taken)) → read_command (drop at tape) ≡ r
     → step_left (went next behind) after out' ≡ play_step m (placed at r) out written → Went m tape out at written next behind after out'
-went_read m after tape out out' at written next behind (granted none) read e = never (ap (λ (l : StepLeft). goes l.answer) e)
+went_read m after tape out out' at written next behind (granted None) read e = never (ap (λ (l : StepLeft). goes l.answer) e)
 went_read m after tape out out' at written next behind (refused number value) read e = never (ap (λ (l : StepLeft). goes l.answer) e)
-went_read m after tape out out' at written next behind (granted (some t)) read e = go (both (leb line_len (length out - written)))
+went_read m after tape out out' at written next behind (granted (Some t)) read e = go (both (leb line_len (length out - written)))
   where
     go : (leb line_len (length out - written) ≡ true) ⊎ (leb line_len (length out - written) ≡ false) → Went m tape out at written next behind after out'
     go (inl enough) =
@@ -225,11 +179,11 @@ halted_as m after tape out out' at written stop why e h =
 
 halted_read : (m after : Memory) (tape out out' : List ℕ) (at written : ℕ) (stop : Reply ℕ) (r : Reply (Option Taken)) → read_command (drop at tape) ≡ r
     → step_left (halted stop) after out' ≡ play_step m (placed at r) out written → Halted m tape out at written stop after out'
-halted_read m after tape out out' at written stop (granted none) read e =
+halted_read m after tape out out' at written stop (granted None) read e =
     halted_as m after tape out out' at written stop (granted 0) e (play_end m (drop at tape) (length out - written) read)
 halted_read m after tape out out' at written stop (refused number value) read e =
     halted_as m after tape out out' at written stop (refused number value) e (play_refused m (drop at tape) (length out - written) number value read)
-halted_read m after tape out out' at written stop (granted (some t)) read e = go (both (leb line_len (length out - written)))
+halted_read m after tape out out' at written stop (granted (Some t)) read e = go (both (leb line_len (length out - written)))
   where
     go : (leb line_len (length out - written) ≡ true) ⊎ (leb line_len (length out - written) ≡ false) → Halted m tape out at written stop after out'
     go (inl enough) = never (sym (ap (λ (l : StepLeft). goes l.answer) (e ∙ ap (chosen m at t out written) enough)))
@@ -256,16 +210,20 @@ halt m₀ tape out₀ m after out out' at written stop g e =
 
 -- ---- the same of what a step answers
 pub go_on : {m₀ : Memory} {tape out₀ : List ℕ} {m : Memory} {out : List ℕ} {at written : ℕ} → Going m₀ tape out₀ m out at written
-    → (answer : Step) (next behind : ℕ) (after : Memory) (out' : List ℕ) → answer ≡ Step.Line next behind
-    → step_left (step_told answer) after out' ≡ play_step m (placed at (read_command (drop at tape))) out written → InOutput answer out
-    → (at < next) × Going m₀ tape out₀ after out' next behind
-go_on {m₀ = m₀} {tape = tape} {out₀ = out₀} {m = m} {out = out} {at = at} {written = written} g answer next behind after out' is e f =
-    let w = went_told m after tape out out' at written next behind (ap (λ (a : Step). step_left (step_told a) after out') (sym is) ∙ e) in
-    turn m₀ tape out₀ m after out out' at written next behind g w (subst (λ (a : Step). InOutput a out) is f)
+    → (line : Line) (after : Memory) (out' : List ℕ)
+    → step_left (step_told (Ok (Some line))) after out' ≡ play_step m (placed at (read_command (drop at tape))) out written → line.end ≤ length out
+    → (at < line.next) × Going m₀ tape out₀ after out' line.next line.end
+go_on {m₀ = m₀} {tape = tape} {out₀ = out₀} {m = m} {out = out} {at = at} {written = written} g line after out' e f =
+    let w = went_told m after tape out out' at written line.next line.end e in
+    turn m₀ tape out₀ m after out out' at written line.next line.end g w f
 
 pub end : {m₀ : Memory} {tape out₀ : List ℕ} {m : Memory} {out : List ℕ} {at written : ℕ} → Going m₀ tape out₀ m out at written
-    → (answer : Step) (stop : Stop) (after : Memory) (out' : List ℕ) → answer ≡ Step.Stopped stop
-    → step_left (step_told answer) after out' ≡ play_step m (placed at (read_command (drop at tape))) out written
-    → play_left at written (stop_told stop) after out' ≡ play_call m₀ tape out₀
-end {m₀ = m₀} {tape = tape} {out₀ = out₀} {m = m} {out = out} {at = at} {written = written} g answer stop after out' is e =
-    halt m₀ tape out₀ m after out out' at written (stop_told stop) g (ap (λ (a : Step). step_left (step_told a) after out') (sym is) ∙ e)
+    → (stop : Reply ℕ) (after : Memory) (out' : List ℕ)
+    → step_left (halted stop) after out' ≡ play_step m (placed at (read_command (drop at tape))) out written
+    → play_left at written stop after out' ≡ play_call m₀ tape out₀
+end {m₀ = m₀} {tape = tape} {out₀ = out₀} {m = m} {out = out} {at = at} {written = written} g stop after out' e =
+    halt m₀ tape out₀ m after out out' at written stop g e
+
+-- the rooms of three tables
+pub same_on : (s t u : Table) → SameRooms s t → SameRooms t u → SameRooms s u
+same_on s t u a b = (b.0 ∙ a.0, b.1 ∙ a.1, b.2 ∙ a.2, b.3 ∙ a.3, b.4 ∙ a.4, b.5 ∙ a.5)

@@ -2,7 +2,7 @@
 -- Assumes nothing.
 use Prim.Native.Nat.{ℕ, suc, ◌+◌, ◌%◌, ◌≤◌}
 use mathlib.Core.List.{List, [], ◌∷◌, ◌++◌, append_assoc}
-use mathlib.Core.Option.{Option, some}
+use Rattle.std.specs.Prelude.{Option, Some}
 use mathlib.Core.Path.{◌≡◌, refl, sym, ap, ◌∙◌}
 use native.Mathlib.Omega.{arith}
 use borrow.Author.Tests.{le-leb, leb-true}
@@ -81,31 +81,31 @@ module _ (s : List ℕ) (b : AreBytes s) where
       ap (λ (l : List ℕ). 2 ∷ (l ++ (get_or s 4 0 % 256 ∷ []))) (operand_again 0 4 s (omega arith) b) ∙ rw (r, l, part_part 0 4 1 s)
 
 -- a command that is read is written from its operands
-as_read : (k : ℕ) (s : List ℕ) (c : Command) (len n : ℕ) (t : Taken) → len ≡ suc n → taken c len ≡ granted (some t) → write_command c ≡ k ∷ part 0 n s
+as_read : (k : ℕ) (s : List ℕ) (c : Command) (len n : ℕ) (t : Taken) → len ≡ suc n → taken c len ≡ granted (Some t) → write_command c ≡ k ∷ part 0 n s
     → write_command t.command ≡ take t.len (k ∷ s)
 as_read k s c len n t e q w =
     let c= : c ≡ t.command = cc in
     let l= : suc n ≡ t.len = cc in
     ap write_command (sym c=) ∙ w ∙ ap (λ (l : List ℕ). k ∷ take n l) (drop_none s) ∙ ap (λ (j : ℕ). take j (k ∷ s)) l=
 
-pub written_again : (s : List ℕ) (t : Taken) → AreBytes s → read_command s ≡ granted (some t) → write_command t.command ≡ take t.len s
+pub written_again : (s : List ℕ) (t : Taken) → AreBytes s → read_command s ≡ granted (Some t) → write_command t.command ≡ take t.len s
 unfolding read_command read_feed read_cancel read_drop read_poll write_command AreBytes
 written_again [] t b q = absurd (let z : ◌≡◌ {A = ℕ} 0 1 = cc in omega arith)
 written_again (x ∷ s) t b q =
-    by_kind (λ (k : ℕ) (r r' : Reply (Option Taken)). r ≡ granted (some t) → write_command t.command ≡ take t.len (k ∷ s)) x s s
-    (λ (q : read_feed s ≡ granted (some t)).
-    let a = asked (leb (14 + chunk_len s) (length s)) 37 _ (some t) (asked (leb 14 (length s)) 37 _ (some t) q).1 in
+    by_kind (λ (k : ℕ) (r r' : Reply (Option Taken)). r ≡ granted (Some t) → write_command t.command ≡ take t.len (k ∷ s)) x s s
+    (λ (q : read_feed s ≡ granted (Some t)).
+    let a = asked (leb (14 + chunk_len s) (length s)) 37 _ (Some t) (asked (leb 14 (length s)) 37 _ (Some t) q).1 in
     as_read 1 s _ (15 + chunk_len s) (14 + chunk_len s) t (omega arith) a.1 (feed_again s b.1 (leb-true (14 + chunk_len s) (length s) a.0)))
-    (λ (q : read_cancel s ≡ granted (some t)).
-    let a = asked (leb 5 (length s)) 37 _ (some t) q in
+    (λ (q : read_cancel s ≡ granted (Some t)).
+    let a = asked (leb 5 (length s)) 37 _ (Some t) q in
     as_read 2 s _ 6 5 t refl a.1 (cancel_again s b.1 (leb-true 5 (length s) a.0)))
-    (λ (q : read_drop s ≡ granted (some t)).
-    let a = asked (leb 4 (length s)) 37 _ (some t) q in
+    (λ (q : read_drop s ≡ granted (Some t)).
+    let a = asked (leb 4 (length s)) 37 _ (Some t) q in
     as_read 3 s _ 5 4 t refl a.1 (ap (λ (l : List ℕ). 3 ∷ l) (operand_again 0 4 s (leb-true 4 (length s) a.0) b.1)))
-    (λ (q : read_poll s ≡ granted (some t)).
-    let a = asked (leb 8 (length s)) 37 _ (some t) q in
+    (λ (q : read_poll s ≡ granted (Some t)).
+    let a = asked (leb 8 (length s)) 37 _ (Some t) q in
     as_read 4 s _ 9 8 t refl a.1 (ap (λ (l : List ℕ). 4 ∷ l) (operand_again 0 8 s (leb-true 8 (length s) a.0) b.1)))
-    (λ (q : refused 36 0 ≡ granted (some t)). absurd (refused_not 36 0 (some t) q))
+    (λ (q : refused 36 0 ≡ granted (Some t)). absurd (refused_not 36 0 (Some t) q))
     q
 
 pub tape_again : (s : List ℕ) → AreBytes s → write_tape (tape_of s).commands ++ (tape_of s).rest ≡ s
@@ -113,6 +113,6 @@ unfolding write_tape
 tape_again =
     by_commands (λ (s : List ℕ). AreBytes s → write_tape (tape_of s).commands ++ (tape_of s).rest ≡ s)
     (λ (s : List ℕ) (end : Reply ℕ) (h : Ends s end) (b : AreBytes s). rw (tape_ends h))
-    (λ (s : List ℕ) (t : Taken) (e : read_command s ≡ granted (some t))
+    (λ (s : List ℕ) (t : Taken) (e : read_command s ≡ granted (Some t))
     (below : AreBytes (drop t.len s) → write_tape (tape_of (drop t.len s)).commands ++ (tape_of (drop t.len s)).rest ≡ drop t.len s) (b : AreBytes s).
     rw (tape_next s t e, append_assoc, below (bytes_drop t.len s b), written_again s t b e) (take-append-drop t.len s))

@@ -1,23 +1,26 @@
 -- What writing a command uses: the bytes that its stores leave, and the definition's cases.
 -- Assumes nothing.
-use Prim.Native.Nat.{ℕ, ◌+◌, ◌≤◌, ◌<◌}
+use Prim.Native.Nat.{ℕ, ◌+◌, ◌%◌, ◌≤◌, ◌<◌}
 use native.Mathlib.Omega.{arith}
-use mathlib.Core.List.{List, ◌∷◌, ◌++◌}
-use mathlib.Core.Path.{◌≡◌, refl, sym, ap, ◌∙◌}
+use mathlib.Core.List.{List, [], ◌∷◌, ◌++◌}
+use mathlib.Core.Path.{◌≡◌, refl, sym, ap, ap₂, ◌∙◌}
 use borrow.Author.Tests.{le-leb, lt-leb}
 use lib.Dec.{leb}
-use lib.ListN.{length, set}
+use lib.ListN.{length, get_or, set, length-set}
 use Rattle.seven_bit.specs.Parts.{part, put, put_fit}
 use Rattle.seven_bit.specs.Reply.{Reply, granted, refused, outcome, writing, ◌else◌then◌}
-use Rattle.seven_bit.proofs.PartLaws.{length_part, put_front}
+use Rattle.seven_bit.proofs.PartLaws.{length_part, put_front, fit_yes}
 use Rattle.seven_bit.proofs.ReplyLaws.{wrote}
-use Rattle.pe_frame.proofs.ChunkLaws.{put_on, fit_on}
+use Rattle.pe_frame.proofs.ChunkLaws.{fit_on}
 use Rattle.pe_tape.specs.declared.command.FedChunk.{FedChunk}
 use Rattle.pe_tape.specs.declared.command.Command.TheVariants.{Feed, Cancel, Drop, Poll}
 use Rattle.pe_tape.specs.Number.{operand_bytes}
-use Rattle.pe_tape.specs.Command.{Command, feed, cancel, write_command}
+use Rattle.pe_tape.specs.Command.{Command, feed, write_command}
 use Rattle.pe_tape.specs.Told.{write_call}
+use Rattle.std.specs.Int.{bytes_low_first}
 use Rattle.pe_tape.proofs.LineLaws.{put_front_byte}
+use Rattle.pe_tape.proofs.NumberLaws.{operand_length}
+use Rattle.pe_tape.proofs.OperandLaws.{bytes_are}
 
 -- ---- any command
 -- the output is too short
@@ -35,9 +38,16 @@ stored n bytes out after l h e =
 pub asked : (out : List ℕ) {r q : Reply (List ℕ)} → r ≡ q → writing r out ≡ writing q out
 asked out = ap (λ (r : Reply (List ℕ)). writing r out)
 
+-- a byte and what stands behind it are stored
+pub short_stored : (kind : ℕ) (operands out after : List ℕ) → 1 + length operands ≤ length out → after ≡ put_fit (set out 0 kind) 1 operands
+    → after ≡ put out 0 (kind ∷ operands)
+short_stored kind operands out after h e =
+    let fits : 1 + length operands ≤ length (set out 0 kind) = omega (arith, h, length-set out 0 kind) in
+    e ∙ fit_yes (set out 0 kind) 1 operands fits ∙ put_front_byte out 0 kind operands 1 refl
+
 -- ---- a cancel, a drop and a poll ask only for the room
 pub cancel_call : (peer request_id : ℕ) (source : List ℕ) (room : ℕ)
-    → write_call (Cancel peer request_id) source room ≡ (leb 6 room else 3 then granted (write_command (cancel peer request_id)))
+    → write_call (Cancel peer request_id) source room ≡ (leb 6 room else 3 then granted (2 ∷ (operand_bytes 4 peer ++ operand_bytes 1 request_id)))
 unfolding write_call write_command operand_bytes
 cancel_call peer request_id source room = refl
 
@@ -49,16 +59,21 @@ pub poll_call : (now_ms : ℕ) (source : List ℕ) (room : ℕ) → write_call (
 unfolding write_call write_command operand_bytes
 poll_call now_ms source room = refl
 
-pub cancel_length : (peer request_id : ℕ) → length (write_command (cancel peer request_id)) ≡ 6
-unfolding write_command operand_bytes
-cancel_length peer request_id = refl
+-- one operand's bytes
+pub short_call : (kind width : ℕ) (bs : List ℕ) (n room : ℕ) → bs ≡ operand_bytes width n
+    → (leb (1 + length bs) room else 3 then granted (kind ∷ bs)) ≡ (leb (1 + width) room else 3 then granted (kind ∷ operand_bytes width n))
+short_call kind width bs n room e =
+    ap (λ (l : List ℕ). leb (1 + length l) room else 3 then granted (kind ∷ l)) e
+    ∙ ap (λ (k : ℕ). leb (1 + k) room else 3 then granted (kind ∷ operand_bytes width n)) (operand_length width n)
 
--- what a cancel's stores leave
-pub cancel_stored : (out first after : List ℕ) (peer request_id : ℕ) → first ≡ put (set out 0 2) 1 (operand_bytes 4 peer)
-    → after ≡ put first 5 (operand_bytes 1 request_id) → after ≡ put out 0 (write_command (cancel peer request_id))
-unfolding write_command operand_bytes
-cancel_stored out first after peer request_id e f =
-    f ∙ put_on out first (2 ∷ operand_bytes 4 peer) (operand_bytes 1 request_id) 0 5 (e ∙ put_front_byte out 0 2 (operand_bytes 4 peer) 1 refl) refl
+-- a cancel's bytes
+pub cancel_bytes : (peer request_id : ℕ) (bs : List ℕ) → bs ≡ bytes_low_first 0 4 peer → request_id < 256
+    → 2 ∷ get_or bs 0 0 ∷ get_or bs 1 0 ∷ get_or bs 2 0 ∷ get_or bs 3 0 ∷ request_id ∷ [] ≡ 2 ∷ (operand_bytes 4 peer ++ operand_bytes 1 request_id)
+unfolding operand_bytes
+cancel_bytes peer request_id bs e h =
+    let one : request_id ≡ request_id % 256 = omega (arith, h) in
+    ap (λ (l : List ℕ). 2 ∷ get_or l 0 0 ∷ get_or l 1 0 ∷ get_or l 2 0 ∷ get_or l 3 0 ∷ request_id ∷ []) e
+    ∙ ap₂ (λ (l : List ℕ) (n : ℕ). 2 ∷ (l ++ (n ∷ []))) (bytes_are 4 peer) one
 
 -- ---- a feed
 abbrev pub feed_of : FedChunk → List ℕ → Command
@@ -95,18 +110,20 @@ feed_call f source room h k =
 
 -- what its stores leave
 pub feed_stored : (out first second third after chunk : List ℕ) (peer now_ms n : ℕ) → length chunk ≡ n → 15 + n ≤ length out
-    → first ≡ put (set out 0 1) 1 (operand_bytes 4 peer) → second ≡ put first 5 (operand_bytes 8 now_ms) → third ≡ put second 13 (operand_bytes 2 n)
-    → after ≡ put_fit third 15 chunk → after ≡ put out 0 (write_command (feed peer now_ms chunk))
+    → first ≡ put_fit (set out 0 1) 1 (bytes_low_first 0 4 peer) → second ≡ put_fit first 5 (bytes_low_first 0 8 now_ms)
+    → third ≡ put_fit second 13 (bytes_low_first 0 2 n) → after ≡ put_fit third 15 chunk → after ≡ put out 0 (write_command (feed peer now_ms chunk))
 unfolding write_command operand_bytes
 feed_stored out first second third after chunk peer now_ms n l h e f g i =
-    let kind : first ≡ put out 0 (1 ∷ operand_bytes 4 peer) = e ∙ put_front_byte out 0 1 (operand_bytes 4 peer) 1 refl in
-    let time : second ≡ put out 0 ((1 ∷ operand_bytes 4 peer) ++ operand_bytes 8 now_ms) =
-    f ∙ put_on out first (1 ∷ operand_bytes 4 peer) (operand_bytes 8 now_ms) 0 5 kind refl in
-    let count : third ≡ put out 0 ((1 ∷ operand_bytes 4 peer) ++ operand_bytes 8 now_ms ++ operand_bytes 2 (length chunk)) =
-    g ∙ ap (λ (k : ℕ). put second 13 (operand_bytes 2 k)) (sym l)
-    ∙ put_on out second ((1 ∷ operand_bytes 4 peer) ++ operand_bytes 8 now_ms) (operand_bytes 2 (length chunk)) 0 13 time refl in
-    i
-    ∙ fit_on out third ((1 ∷ operand_bytes 4 peer) ++ operand_bytes 8 now_ms ++ operand_bytes 2 (length chunk)) chunk 0 15 count refl (omega (arith, l, h))
+    let front : List ℕ = 1 ∷ operand_bytes 4 peer in
+    let timed : List ℕ = front ++ operand_bytes 8 now_ms in
+    let kind : first ≡ put out 0 front =
+    short_stored 1 (operand_bytes 4 peer) out first (omega (arith, h)) (e ∙ ap (put_fit (set out 0 1) 1) (bytes_are 4 peer)) in
+    let time : second ≡ put out 0 timed =
+    f ∙ ap (put_fit first 5) (bytes_are 8 now_ms) ∙ fit_on out first front (operand_bytes 8 now_ms) 0 5 kind refl (omega (arith, h)) in
+    let count : third ≡ put out 0 (timed ++ operand_bytes 2 (length chunk)) =
+    g ∙ ap (put_fit second 13) (bytes_are 2 n ∙ ap (operand_bytes 2) (sym l))
+    ∙ fit_on out second timed (operand_bytes 2 (length chunk)) 0 13 time refl (omega (arith, h)) in
+    i ∙ fit_on out third (timed ++ operand_bytes 2 (length chunk)) chunk 0 15 count refl (omega (arith, l, h))
 
 -- the output is too short, or has it
 pub feed_short : (f : FedChunk) (source out : List ℕ) → f.chunk_at + f.chunk_len ≤ length source → f.chunk_len ≤ 65535

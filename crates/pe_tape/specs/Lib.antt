@@ -5,5 +5,7 @@ pub mod Line
 pub mod Play
 pub mod Replay
 pub mod Runs
+pub mod Errors
+pub mod Table
 pub mod Told
 pub mod Steps

@@ -1,7 +1,6 @@
 -- Playing commands on a table (document 02, K4).
 -- Assumes nothing.
-use Rattle.std.specs.Prelude.{ℕ, zero, suc, ◌+◌, ◌-◌, cond, List, [], ◌++◌, leb, length, drop, replicate}
-use Rattle.std.proofs.Math.Option.{Option, none, some}
+use Rattle.std.specs.Prelude.{ℕ, zero, suc, ◌+◌, ◌-◌, cond, Option, None, Some, List, [], ◌++◌, leb, length, drop, replicate}
 use Rattle.seven_bit.specs.Reply.{Reply, granted, refused}
 use Rattle.pe_reassembler.specs.declared.shape.Shape.{Shape}
 use Rattle.pe_reassembler.specs.Feed.{Memory, memory, feed_call}
@@ -70,9 +69,9 @@ before text used p = record { text = text ++ p.text; memory = p.memory; used = u
 
 -- The next command, where there is room for a line; 3 where there is not, and the command is not played.
 abbrev pub play_on : Reply (Option Taken) → Memory → ℕ → (Memory → ℕ → ℕ → Played) → Played
-play_on (granted none) m room next = stopped m (granted 0)
+play_on (granted None) m room next = stopped m (granted 0)
 play_on (refused number value) m room next = stopped m (refused number value)
-play_on (granted (some t)) m room next =
+play_on (granted (Some t)) m room next =
     cond (leb line_len room)
     (before (line_of m t.command) t.len (next (make_call m t.command).memory t.len (room - length (line_of m t.command))))
     (stopped m (refused 3 0))

@@ -1,7 +1,6 @@
 -- "Replay equals making the same calls one by one": a tape's text, and what is said of it.
 -- Assumes nothing.
-use Rattle.std.specs.Prelude.{ℕ, ◌<◌, List, [], ◌∷◌, ◌++◌, ◌≡◌, drop}
-use Rattle.std.proofs.Math.Option.{some}
+use Rattle.std.specs.Prelude.{ℕ, ◌<◌, Some, List, [], ◌∷◌, ◌++◌, ◌≡◌, drop}
 use Rattle.seven_bit.specs.Reply.{Reply, granted, refused}
 use Rattle.pe_reassembler.specs.Feed.{Memory, memory}
 use Rattle.pe_reassembler.specs.Calls.{new_call}
@@ -39,7 +38,7 @@ replay m s = text_of (started m) s
 -- Why playing stops: the tape ends, or there is no room for the line of the command that is left.
 pub data Stops (left : List ℕ) (room : ℕ) : Reply ℕ → Type 0 where
   ends : {stop : Reply ℕ} → Ends left stop → Stops left room stop
-  full : (t : Taken) → read_command left ≡ granted (some t) → room < line_len → Stops left room (refused 3 0)
+  full : (t : Taken) → read_command left ≡ granted (Some t) → room < line_len → Stops left room (refused 3 0)
 
 -- All commands of a tape are played.
 pub record PlaysAll (m : Memory) (s : List ℕ) (p : Played) : Type 0 where

@@ -4,7 +4,6 @@
 pub mod command;
 pub mod error;
 pub mod line;
-mod operand;
 pub mod play;
 pub mod read;
 pub mod write;

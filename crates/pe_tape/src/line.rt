@@ -3,9 +3,11 @@ ghost use Rattle.std.specs.Prelude.{◌≡◌, ◌+◌, ◌≤◌, ◌<◌, leng
 ghost use Rattle.seven_bit.specs.Parts.{put};
 ghost use Rattle.pe_tape.specs.Number.{decimal};
 ghost use Rattle.pe_tape.specs.Line.{marked, whole, shown_text, line_text, end_text};
-ghost use Rattle.pe_tape.specs.Told.{shown_told, tape_refused};
+ghost use Rattle.pe_tape.specs.Errors.{tape_refused};
+ghost use Rattle.pe_tape.specs.Told.{shown_told};
 
 use crate::error::TapeError;
+use seven_bit::refusal::Refusal;
 
 // The most bytes of a line: `1 w `, two numbers of 64 bits with a space between them, and the line's end.
 pub const LINE_LEN: usize = 46;

@@ -3,7 +3,7 @@
 use Prim.Native.Nat.{ℕ, suc, ◌+◌, ◌<◌, ◌≤◌}
 use mathlib.Core.Bool.{true, false, cond, ◌&&◌}
 use mathlib.Core.List.{List}
-use mathlib.Core.Option.{some}
+use Rattle.std.specs.Prelude.{Some}
 use mathlib.Core.Path.{◌≡◌, refl, sym, ap, ap₂, subst₂, ◌∙◌}
 use native.Mathlib.Omega.{arith}
 use borrow.Author.Tests.{ne_eqb}
@@ -87,7 +87,7 @@ chunk_granted buffer room n k count i c one l r =
 
 -- a turn is granted where the next place holds a list that lies in the buffer as it was cut, its next chunk is one of the count, and the output has
 -- room for that
-pub turn_granted : (s : Stage) (buffer : List ℕ) (room p : ℕ) (n : Outgoing) (header body : List ℕ) (k count : ℕ) → next_waiting s ≡ some p
+pub turn_granted : (s : Stage) (buffer : List ℕ) (room p : ℕ) (n : Outgoing) (header body : List ℕ) (k count : ℕ) → next_waiting s ≡ Some p
     → place_at s p ≡ holding n k → is_inside buffer n ≡ true → header_in buffer n ≡ header → body_in buffer n ≡ body
     → cut_count n.request_id header body n.max_sysex ≡ granted count → 1 ≤ k → k ≤ count
     → chunk_len (chunk_at n.request_id header body n.max_sysex k) ≤ room

@@ -1,10 +1,10 @@
 -- One call, as a place that waits sees it.
 -- Assumes nothing.
-use Prim.Native.Nat.{ℕ, ◌+◌, ◌-◌, ◌%◌, ◌<◌}
+use Prim.Native.Nat.{ℕ, ◌+◌, ◌%◌, ◌<◌}
 use mathlib.Core.Bool.{true, false}
 use mathlib.Core.List.{List, ◌∷◌}
 use mathlib.Core.Logic.{◌⊎◌, inl, inr}
-use mathlib.Core.Option.{Option, none, some}
+use Rattle.std.specs.Prelude.{Option, Some, None}
 use mathlib.Core.Path.{◌≡◌, refl, sym, ap, ◌∙◌}
 use native.Mathlib.Omega.{arith}
 use borrow.Author.Tests.{eqb-true, eqb-false}
@@ -34,27 +34,27 @@ join_told s buffer p n count q =
     (a.0, b.0, c.0, c.1)
 
 at_hands : (s : Stage) (buffer : List ℕ) (room : ℕ) (o : Option ℕ) (q : ℕ) (f : Written) → ask_at s buffer room o ≡ granted (hands q f)
-    → (o ≡ some q) × (ask_chunk buffer room (place_at s q) ≡ granted f)
-at_hands s buffer room none q f e = absurd (let z : ◌≡◌ {A = ℕ} 0 1 = cc in omega arith)
-at_hands s buffer room (some r) q f e =
+    → (o ≡ Some q) × (ask_chunk buffer room (place_at s q) ≡ granted f)
+at_hands s buffer room None q f e = absurd (let z : ◌≡◌ {A = ℕ} 0 1 = cc in omega arith)
+at_hands s buffer room (Some r) q f e =
     let t = first_granted (ask_chunk buffer room (place_at s r)) (λ g. granted (hands r g)) (hands q f) e in
     let e1 = t.1 in
     let e2 = t.2 in
     (cc, cc)
 
 pub turn_hands : (s : Stage) (buffer : List ℕ) (room q : ℕ) (f : Written) → ask_turn s buffer room ≡ granted (hands q f)
-    → (next_waiting s ≡ some q) × (ask_chunk buffer room (place_at s q) ≡ granted f)
+    → (next_waiting s ≡ Some q) × (ask_chunk buffer room (place_at s q) ≡ granted f)
 unfolding ask_turn
 turn_hands s buffer room q f e = at_hands s buffer room (next_waiting s) q f e
 
-at_nobody : (s : Stage) (buffer : List ℕ) (room : ℕ) (o : Option ℕ) → ask_at s buffer room o ≡ granted nobody → o ≡ none
-at_nobody s buffer room none e = refl
-at_nobody s buffer room (some r) e =
+at_nobody : (s : Stage) (buffer : List ℕ) (room : ℕ) (o : Option ℕ) → ask_at s buffer room o ≡ granted nobody → o ≡ None
+at_nobody s buffer room None e = refl
+at_nobody s buffer room (Some r) e =
     let t = first_granted (ask_chunk buffer room (place_at s r)) (λ g. granted (hands r g)) nobody e in
     let e2 = t.2 in
     absurd (let z : ◌≡◌ {A = ℕ} 0 1 = cc in omega arith)
 
-pub turn_nobody : (s : Stage) (buffer : List ℕ) (room : ℕ) → ask_turn s buffer room ≡ granted nobody → next_waiting s ≡ none
+pub turn_nobody : (s : Stage) (buffer : List ℕ) (room : ℕ) → ask_turn s buffer room ≡ granted nobody → next_waiting s ≡ None
 unfolding ask_turn
 turn_nobody s buffer room e = at_nobody s buffer room (next_waiting s) e
 
@@ -78,7 +78,7 @@ next_found s p g w =
     let l = low s.places p w in
     found s.places 16 (s.turn % 16) p (omega arith) (omega arith) w (omega arith)
 
-pub never_none : (s : Stage) (p : ℕ) → length s.places ≡ 16 → is_free (place_at s p) ≡ false → next_waiting s ≡ none → ⊥
+pub never_none : (s : Stage) (p : ℕ) → length s.places ≡ 16 → is_free (place_at s p) ≡ false → next_waiting s ≡ None → ⊥
 never_none s p g w e =
     let r = next_found s p g w in
     let i = r.is in
@@ -116,7 +116,7 @@ step s p (turn buffer out) g w = go (ask_turn s buffer (length out)) refl
     go (granted nobody) e = absurd (never_none s p g w (turn_nobody s buffer (length out) e))
     go (granted (hands q f)) e = by (both (eqb p q))
       where
-        t : (next_waiting s ≡ some q) × (ask_chunk buffer (length out) (place_at s q) ≡ granted f)
+        t : (next_waiting s ≡ Some q) × (ask_chunk buffer (length out) (place_at s q) ≡ granted f)
         t = turn_hands s buffer (length out) q f e
 
         tells : (told : List Answer) → turns_in (turned (ask_turn s buffer (length out)) ∷ told) ≡ hands q f ∷ turns_in told

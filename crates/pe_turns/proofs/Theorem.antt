@@ -4,7 +4,7 @@ use Prim.Native.Nat.{ℕ, zero, suc, ◌+◌, ◌-◌, ◌%◌, ◌<◌, ◌≤�
 use mathlib.Core.Bool.{Bool, true, false, cond}
 use mathlib.Core.List.{List, [], ◌∷◌, ◌++◌, append_assoc}
 use mathlib.Core.Logic.{◌⊎◌, inl, inr}
-use mathlib.Core.Option.{none}
+use Rattle.std.specs.Prelude.{None}
 use mathlib.Core.Path.{◌≡◌, refl, sym, ap, subst, ◌∙◌}
 use native.Mathlib.Omega.{arith}
 use borrow.Author.Tests.{leb-true, le-ltb}
@@ -182,7 +182,7 @@ taking_turns =
         → answer (stage_from empty before) c ≡ a
     answered before c a e = cc
 
-    nobody_waits : (before : List Call) (p : ℕ) → next_waiting (stage_from empty before) ≡ none
+    nobody_waits : (before : List Call) (p : ℕ) → next_waiting (stage_from empty before) ≡ None
         → (is_free (place_at (stage_from empty before) p) ≡ true) ⊎ (is_free (place_at (stage_from empty before) p) ≡ false)
         → is_free (place_at (stage_from empty before) p) ≡ true
     nobody_waits before p e (inl f) = f

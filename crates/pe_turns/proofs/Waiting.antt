@@ -4,7 +4,7 @@ use Prim.Native.Nat.{ℕ, zero, suc, ◌+◌, ◌-◌, ◌%◌, ◌<◌, ◌≤�
 use mathlib.Core.Bool.{true, false}
 use mathlib.Core.List.{List, [], ◌∷◌}
 use mathlib.Core.Logic.{◌⊎◌, inl, inr}
-use mathlib.Core.Option.{some}
+use Rattle.std.specs.Prelude.{Some}
 use mathlib.Core.Path.{◌≡◌, ap}
 use native.Mathlib.Omega.{arith}
 use borrow.Author.Tests.{leb-true, leb-false}
@@ -68,7 +68,7 @@ distance_less p q from turn a b c n e l =
 
 pub record Found (places : List Place) (more from p : ℕ) : Type 0 where
   pub q : ℕ
-  pub is : first_waiting places more from ≡ some q
+  pub is : first_waiting places more from ≡ Some q
   pub under : q < 16
   pub busy : is_free (get_or places q free_place) ≡ false
   pub near : distance q from ≤ distance p from

@@ -1,7 +1,6 @@
 -- Calls on a stage that only they change, one after the other: what is held after them, and their answers.
 -- Assumes nothing.
-use Rattle.std.specs.Prelude.{ℕ, List, [], ◌∷◌, take}
-use Rattle.std.proofs.Math.Option.{Option, none, some}
+use Rattle.std.specs.Prelude.{ℕ, List, [], ◌∷◌, take, Option, Some, None}
 use Rattle.seven_bit.specs.Reply.{Reply, granted, refused}
 use Rattle.pe_stage.specs.declared.Handed.{Handed}
 use Rattle.pe_stage.specs.declared.place.Outgoing.{Outgoing}
@@ -20,8 +19,8 @@ pub data Answer : Type 0 where
 
 -- What is seen of a turn: the numbers of its answer, and as many bytes as they say of the output that it left.
 abbrev pub seen_turn : Reply (Option Handed) → List ℕ → Reply Handout
-seen_turn (granted none) out = granted nobody
-seen_turn (granted (some h)) out = granted (hands h.place (written h.chunk_num h.num_chunks (take h.len out)))
+seen_turn (granted None) out = granted nobody
+seen_turn (granted (Some h)) out = granted (hands h.place (written h.chunk_num h.num_chunks (take h.len out)))
 seen_turn (refused number value) out = refused number value
 
 -- ---- over lent numbers: what a call answers and leaves is what its contract says

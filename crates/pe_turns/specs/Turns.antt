@@ -1,7 +1,6 @@
 -- K8: one statement about every sequence of joins and turns from an empty stage.
 -- Assumes nothing.
-use Rattle.std.specs.Prelude.{ℕ, zero, suc, ◌*◌, ◌≤◌, ◌<◌, Bool, true, false, cond, List, [], ◌∷◌, ◌++◌, ◌≡◌, eqb, length, take}
-use Rattle.std.proofs.Math.Option.{some}
+use Rattle.std.specs.Prelude.{ℕ, zero, suc, ◌*◌, ◌≤◌, ◌<◌, Bool, true, false, cond, List, [], ◌∷◌, ◌++◌, ◌≡◌, eqb, length, take, Some}
 use Rattle.seven_bit.specs.Reply.{granted, refused}
 use Rattle.pe_frame.specs.Write.{chunk_bytes, chunk_len}
 use Rattle.pe_chunker.specs.Cut.{chunk_at}
@@ -74,7 +73,7 @@ pub record Leaves (s : Seen) (p : ℕ) (list : Outgoing) (header body : List ℕ
   pub freed : (some_calls : List Call) (last : Call) → calls ≡ some_calls ++ last ∷ [] → length (sent p (s.told since some_calls)) < count
       → length (sent p (s.told since calls)) ≡ count → is_free (place_at (s.held (since ++ calls)) p) ≡ true
   -- and where it is the next one that waits, a turn is granted that has it in its buffer, and room in its output for the chunk that is next.
-  pub progress : (buffer out : List ℕ) → next_waiting (s.held (since ++ calls)) ≡ some p → length (sent p (s.told since calls)) < count
+  pub progress : (buffer out : List ℕ) → next_waiting (s.held (since ++ calls)) ≡ Some p → length (sent p (s.told since calls)) < count
       → is_inside buffer list ≡ true → header_in buffer list ≡ header → body_in buffer list ≡ body
       → chunk_len (chunk_at list.request_id header body list.max_sysex (suc (length (sent p (s.told since calls))))) ≤ length out
       → s.told (since ++ calls) (turn buffer out ∷ [])

@@ -7,55 +7,51 @@
 
 mod table;
 
-ghost use Rattle.std.specs.Prelude.{◌<◌, ◌≤◌, IfOk, length};
+ghost use Rattle.std.specs.Prelude.{◌<◌, ◌≤◌, IfSome, length};
 
+use crate::table::Table;
 use codec_exports::answer::HeaderFields;
 use hub::answer::Answer;
 use std::io;
 use std::io::{BufWriter, Read, Write};
 
-// Bytes past the end are 0.
-fn u8_at(s: &[u8], at: usize) -> u8 {
-    if at < s.len() { s[at] } else { 0 }
-}
-
-fn u16_at(s: &[u8], at: usize) -> u16
-    requires { at ≤ 64 }
-{
-    u8_at(s, at) as u16 + 256 * (u8_at(s, at + 1) as u16)
-}
-
-fn u32_at(s: &[u8], at: usize) -> u32
-    requires { at ≤ 32 }
-{
-    u16_at(s, at) as u32 + 65_536 * (u16_at(s, at + 2) as u32)
-}
-
-fn u64_at(s: &[u8], at: usize) -> u64
-    requires { at ≤ 16 }
-{
-    u32_at(s, at) as u64 + 4_294_967_296 * (u32_at(s, at + 4) as u64)
-}
-
 fn from(s: &[u8], at: usize) -> &[u8] {
-    if at <= s.len() { &s[at..] } else { &s[..0] }
+    &s[at.min(s.len())..]
 }
 
 fn first(s: &[u8], n: usize) -> &[u8] {
-    if n <= s.len() { &s[0..n] } else { &s[0..] }
+    &s[..n.min(s.len())]
 }
 
-// The header whose length stands at `at`, and what follows it.
-fn header_at(s: &[u8], at: usize) -> &[u8]
-    requires { at ≤ 64 }
-{
-    first(from(s, at + 2), u16_at(s, at) as usize)
+// The N bytes from `at` on; those past the end are 0.
+fn bytes_at<const N: usize>(s: &[u8], at: usize) -> [u8; N] {
+    let mut bytes = [0u8; N];
+    for (byte, there) in bytes.iter_mut().zip(from(s, at)) {
+        *byte = *there;
+    }
+    bytes
 }
 
-fn behind_header(s: &[u8], at: usize) -> &[u8]
-    requires { at ≤ 64 }
-{
-    from(from(s, at + 2), u16_at(s, at) as usize)
+fn u8_at(s: &[u8], at: usize) -> u8 {
+    s.get(at).copied().unwrap_or(0)
+}
+
+fn u16_at(s: &[u8], at: usize) -> u16 {
+    u16::from_le_bytes(bytes_at(s, at))
+}
+
+fn u32_at(s: &[u8], at: usize) -> u32 {
+    u32::from_le_bytes(bytes_at(s, at))
+}
+
+fn u64_at(s: &[u8], at: usize) -> u64 {
+    u64::from_le_bytes(bytes_at(s, at))
+}
+
+// A list's header, whose length stands at 5, and what follows it.
+fn header_and_rest(s: &[u8]) -> (&[u8], &[u8]) {
+    let behind = from(s, 7);
+    behind.split_at((u16_at(s, 5) as usize).min(behind.len()))
 }
 
 fn print_value(to: &mut impl Write, n: u64) -> io::Result<()> {
@@ -67,7 +63,7 @@ fn print_byte(to: &mut impl Write, b: u8) -> io::Result<()> {
 }
 
 fn print_flag(to: &mut impl Write, yes: bool) -> io::Result<()> {
-    print_value(to, if yes { 1 } else { 0 })
+    print_value(to, yes as u64)
 }
 
 fn print_refusal(to: &mut impl Write, refusal: u8, value: u8) -> io::Result<()> {
@@ -76,15 +72,9 @@ fn print_refusal(to: &mut impl Write, refusal: u8, value: u8) -> io::Result<()> 
     print_byte(to, value)
 }
 
-fn print_behind_space(to: &mut impl Write, b: u8) -> io::Result<()> {
-    write!(to, " {b}")
-}
-
 fn print_bytes(to: &mut impl Write, bytes: &[u8]) -> io::Result<()> {
-    let mut i = 0;
-    while i < bytes.len() {
-        print_behind_space(to, bytes[i])?;
-        i += 1;
+    for byte in bytes {
+        write!(to, " {byte}")?;
     }
     Ok(())
 }
@@ -139,42 +129,39 @@ fn caps_encode(s: &[u8], out: &mut [u8]) -> Answer {
 }
 
 fn chunk_encode(s: &[u8], out: &mut [u8]) -> Answer {
+    let (header, property) = header_and_rest(s);
     codec_exports::pe::codec_encode_chunk(
         u8_at(s, 0),
-        header_at(s, 5),
+        header,
         u16_at(s, 1),
         u16_at(s, 3),
-        behind_header(s, 5),
+        property,
         out,
     )
 }
 
 fn split_chunk(chunk_num: u16, s: &[u8], out: &mut [u8]) -> Answer {
-    hub::chunks::midici_pe_split_chunk(
-        u8_at(s, 0),
-        header_at(s, 5),
-        behind_header(s, 5),
-        u32_at(s, 1),
-        chunk_num,
-        out,
-    )
+    let (header, body) = header_and_rest(s);
+    hub::chunks::midici_pe_split_chunk(u8_at(s, 0), header, body, u32_at(s, 1), chunk_num, out)
 }
 
 fn whole_encode(kind: u8, source: u32, dest: u32, s: &[u8], out: &mut [u8]) -> Answer {
+    let (header, property) = header_and_rest(s);
     hub::chunks::midici_pe_encode_message(
         kind,
         source,
         dest,
         u8_at(s, 0),
-        header_at(s, 5),
+        header,
         u16_at(s, 1),
         u16_at(s, 3),
-        behind_header(s, 5),
+        property,
         out,
     )
 }
 
-// The functions that write into a lent output.
+// The functions that write into a lent output. A function's number is the list's own, and stands beside the one call that it means: an enum would
+// only name the calls once more.
 fn write(op: u8, s: &[u8], out: &mut [u8]) -> Answer {
     match op {
         2 => codec_exports::pe::codec_write_u14_le7(u16_at(s, 2), out),
@@ -190,44 +177,25 @@ fn write(op: u8, s: &[u8], out: &mut [u8]) -> Answer {
     }
 }
 
-fn write_into(
-    to: &mut impl Write,
-    op: u8,
-    s: &[u8],
-    space: &mut [u8],
-    room: usize,
-) -> io::Result<()> {
-    if room <= space.len() {
-        print_answer(to, write(op, s, &mut space[0..room]))?;
-        print_out(to, &space[0..room])?;
-    }
-    Ok(())
-}
-
+// The output has as much room as the input says, up to 256 bytes.
 fn play_writer(to: &mut impl Write, op: u8, s: &[u8]) -> io::Result<()> {
     let mut space = [0xEEu8; 256];
-    write_into(to, op, s, &mut space, u16_at(s, 0) as usize)
+    let out = &mut space[..(u16_at(s, 0) as usize).min(256)];
+    let answer = write(op, s, out);
+    print_answer(to, answer)?;
+    print_out(to, out)
 }
 
 fn muid_decode(to: &mut impl Write, s: &[u8]) -> io::Result<()> {
-    let bytes = [u8_at(s, 0), u8_at(s, 1), u8_at(s, 2), u8_at(s, 3)];
+    let bytes = bytes_at(s, 0);
     print_answer(to, codec_exports::ci::codec_muid_decode_7bit_le(&bytes))
 }
 
 fn muid_encode(to: &mut impl Write, s: &[u8]) -> io::Result<()> {
     let mut bytes = [0u8; 4];
     codec_exports::ci::codec_muid_encode_7bit_le(u32_at(s, 0), &mut bytes);
-    print_byte(to, bytes[0])?;
-    print_byte(to, bytes[1])?;
-    print_byte(to, bytes[2])?;
-    print_byte(to, bytes[3])
-}
-
-fn generate(to: &mut impl Write, words: &[u32], n: usize) -> io::Result<()> {
-    if n <= words.len() {
-        let generated = codec_exports::ci::codec_muid_generate(&words[0..n]);
-        print_flag(to, generated.found)?;
-        print_value(to, generated.number as u64)?;
+    for byte in bytes {
+        print_byte(to, byte)?;
     }
     Ok(())
 }
@@ -241,7 +209,9 @@ fn muid_generate(to: &mut impl Write, s: &[u8]) -> io::Result<()> {
         u32_at(s, 12),
         u32_at(s, 16),
     ];
-    generate(to, &words, s.len() / 4)
+    let generated = codec_exports::ci::codec_muid_generate(&words[..(s.len() / 4).min(5)]);
+    print_flag(to, generated.found)?;
+    print_value(to, generated.number as u64)
 }
 
 fn header_decode(to: &mut impl Write, s: &[u8]) -> io::Result<()> {
@@ -282,11 +252,7 @@ fn play_message(to: &mut impl Write, s: &[u8]) -> io::Result<()> {
     }
     print_header(to, answer.header)?;
     let payload = from(s, answer.payload_at as usize);
-    let len = answer.payload_len as usize;
-    if len <= payload.len() {
-        print_out(to, &payload[0..len])?;
-    }
-    Ok(())
+    print_out(to, first(payload, answer.payload_len as usize))
 }
 
 // Header and property are shown as the output.
@@ -315,12 +281,8 @@ fn first_capacity(s: &[u8]) -> Answer {
 }
 
 fn chunk_count(s: &[u8]) -> Answer {
-    hub::chunks::midici_pe_chunk_count(
-        u8_at(s, 0),
-        header_at(s, 5),
-        behind_header(s, 5),
-        u32_at(s, 1),
-    )
+    let (header, body) = header_and_rest(s);
+    hub::chunks::midici_pe_chunk_count(u8_at(s, 0), header, body, u32_at(s, 1))
 }
 
 fn alloc_out_request_id(to: &mut impl Write, s: &[u8]) -> io::Result<()> {
@@ -379,99 +341,66 @@ fn play_function(to: &mut impl Write, op: u8, s: &[u8]) -> io::Result<()> {
     }
 }
 
-fn play(
-    to: &mut impl Write,
-    op: u8,
-    s: &[u8],
-    numbers: &mut [u64],
-    index: &mut [u64],
-    headers: &mut [u8],
-    arenas: &mut [u8],
-) -> io::Result<()> {
+fn play(to: &mut impl Write, op: u8, s: &[u8], table: &mut Table) -> io::Result<()> {
     match op {
-        64 => table::new(to, numbers, index, headers, arenas),
-        65 => table::feed(to, s, numbers, index, headers, arenas),
-        66 => table::cancel(to, s, numbers),
-        67 => table::drop_peer(to, s, numbers),
-        68 => table::poll(to, s, numbers),
-        69 => table::memory_stats(to, numbers),
+        64 => table.make(to),
+        65 => table.feed(to, s),
+        66 => table.cancel(to, s),
+        67 => table.drop_peer(to, s),
+        68 => table.poll(to, s),
+        69 => table.memory_stats(to),
         _ => play_function(to, op, s),
     }
 }
 
-// Plays the record at `at`, and returns the place after it, or the end where it is cut off.
-fn record(
-    to: &mut impl Write,
-    s: &[u8],
-    at: usize,
-    numbers: &mut [u64],
-    index: &mut [u64],
-    headers: &mut [u8],
-    arenas: &mut [u8],
-) -> io::Result<usize>
-    requires { at < length s.now }
-    ensures lower_bound { IfOk result (λ next. at < next) }
-    ensures upper_bound { IfOk result (λ next. next ≤ length s.now) }
+// A function's byte and its input, and what follows them.
+#[derive(Clone, Copy)]
+struct Record<'a> {
+    op: u8,
+    input: &'a [u8],
+    rest: &'a [u8],
+}
+
+// The first record; none where there is no more, or where it is cut off.
+fn first_record(s: &[u8]) -> Option<Record<'_>>
+    ensures { IfSome result (λ r. length r.rest.now < length s.now) }
 {
-    let start = at + 1;
-    let n = u16_at(&s[start..], 0) as usize;
-    if s.len() - start < n + 2 {
-        return Ok(s.len());
-    }
-    let body = start + 2;
-    let end = body + n;
-    play(to, s[at], &s[body..end], numbers, index, headers, arenas)?;
-    Ok(end)
+    let [op, low, high, behind @ ..] = s else {
+        return None;
+    };
+    let len = u16::from_le_bytes([*low, *high]) as usize;
+    let (input, rest) = behind.split_at_checked(len)?;
+    Some(Record {
+        op: *op,
+        input,
+        rest,
+    })
 }
 
-fn replay(
-    to: &mut impl Write,
-    s: &[u8],
-    numbers: &mut [u64],
-    index: &mut [u64],
-    headers: &mut [u8],
-    arenas: &mut [u8],
-) -> io::Result<()> {
-    let mut at = 0;
-    while at < s.len() {
-        at = record(to, s, at, numbers, index, headers, arenas)?;
-    }
-    Ok(())
-}
-
-// Reads until block is full, the input ends or a read fails, and returns how many bytes it put at the start of block.
+// Reads until block is full, the input ends or a read fails, and returns how many bytes it put at the start of block. (The library reads all of an
+// input only into a vector.)
 fn read_full(input: &mut impl Read, block: &mut [u8]) -> usize
     ensures { result ≤ length block.new }
 {
     let mut have = 0;
     while have < block.len() {
-        let Ok(got) = input.read(&mut block[have..]) else {
-            break;
-        };
-        if got == 0 {
-            break;
+        match input.read(&mut block[have..]) {
+            Ok(0) | Err(_) => break,
+            Ok(got) => have += got,
         }
-        have += got;
     }
     have
 }
 
-// The table has one peer, at full size.
 fn main(rt: HostRuntime) -> io::Result<()> {
     let mut input = [0u8; 65536];
-    let mut numbers = [0u64; 39];
-    let mut index = [0u64; 8192];
-    let mut headers = [0u8; 16384];
-    let mut arenas = [0u8; 262144];
+    let mut table = Table::new();
     let n = read_full(&mut rt.stdin(), &mut input);
     let mut to = BufWriter::new(rt.alloc(), io::writer(&rt))?;
-    replay(
-        &mut to,
-        &input[..n],
-        &mut numbers,
-        &mut index,
-        &mut headers,
-        &mut arenas,
-    )?;
+    let mut rest = &input[..n];
+    while let Some(record) = first_record(rest) {
+        play(&mut to, record.op, record.input, &mut table)?;
+        rest = record.rest;
+    }
     to.flush()
 }

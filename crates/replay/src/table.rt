@@ -18,101 +18,106 @@ const SHAPE: Shape = Shape {
     fragment_records: MAX_FRAGMENT_RECORDS,
 };
 
-pub(crate) fn new(
-    to: &mut impl Write,
-    numbers: &mut [u64],
-    index: &mut [u64],
-    headers: &[u8],
-    arenas: &[u8],
-) -> io::Result<()> {
-    let answer = hub::table::midici_pe_new(SHAPE, numbers, index, headers, arenas);
-    print_answer(to, answer)?;
-    print_out(to, b"")
+// The table's memory.
+#[derive(Drop)]
+pub(crate) struct Table {
+    numbers: [u64; 39],
+    index: [u64; 8192],
+    headers: [u8; 16384],
+    arenas: [u8; 262144],
 }
 
-pub(crate) fn feed(
-    to: &mut impl Write,
-    s: &[u8],
-    numbers: &mut [u64],
-    index: &mut [u64],
-    headers: &mut [u8],
-    arenas: &mut [u8],
-) -> io::Result<()> {
-    let mut out_header = [0u8; 4096];
-    let mut out_body = [0u8; 65536];
-    let answer = hub::table::midici_pe_feed(
-        SHAPE,
-        numbers,
-        index,
-        headers,
-        arenas,
-        u32_at(s, 0),
-        from(s, 12),
-        u64_at(s, 4),
-        &mut out_header,
-        &mut out_body,
-    );
-    if answer.refusal != 0 {
-        print_refusal(to, answer.refusal, answer.value)?;
-        return print_out(to, b"");
+impl Table {
+    pub(crate) fn new() -> Table {
+        Table {
+            numbers: [0; 39],
+            index: [0; 8192],
+            headers: [0; 16384],
+            arenas: [0; 262144],
+        }
     }
-    print_byte(to, answer.whole)?;
-    print_value(to, answer.header_len)?;
-    print_value(to, answer.body_len)?;
-    print_parts(
-        to,
-        first(&out_header, answer.header_len as usize),
-        first(&out_body, answer.body_len as usize),
-    )
-}
 
-pub(crate) fn cancel(to: &mut impl Write, s: &[u8], numbers: &mut [u64]) -> io::Result<()> {
-    print_answer(
-        to,
-        hub::table::midici_pe_cancel(SHAPE, numbers, u32_at(s, 0), u8_at(s, 4)),
-    )?;
-    print_out(to, b"")
-}
-
-pub(crate) fn drop_peer(to: &mut impl Write, s: &[u8], numbers: &mut [u64]) -> io::Result<()> {
-    print_answer(
-        to,
-        hub::table::midici_pe_drop_peer(SHAPE, numbers, u32_at(s, 0)),
-    )?;
-    print_out(to, b"")
-}
-
-// Row i, where there are more than i.
-fn print_row(to: &mut impl Write, i: u64, rows: u64, peer: u64, request_id: u64) -> io::Result<()> {
-    if i < rows {
-        print_value(to, peer)?;
-        print_value(to, request_id)?;
+    pub(crate) fn make(&mut self, to: &mut impl Write) -> io::Result<()> {
+        let answer = hub::table::midici_pe_new(
+            SHAPE,
+            &mut self.numbers,
+            &mut self.index,
+            &self.headers,
+            &self.arenas,
+        );
+        print_answer(to, answer)?;
+        print_out(to, b"")
     }
-    Ok(())
-}
 
-pub(crate) fn poll(to: &mut impl Write, s: &[u8], numbers: &mut [u64]) -> io::Result<()> {
-    let mut peers = [0u64; 4];
-    let mut request_ids = [0u64; 4];
-    let answer = hub::table::midici_pe_poll(
-        SHAPE,
-        numbers,
-        u64_at(s, 0),
-        &mut peers,
-        &mut request_ids,
-    );
-    print_answer(to, answer)?;
-    print_row(to, 0, answer.count, peers[0], request_ids[0])?;
-    print_row(to, 1, answer.count, peers[1], request_ids[1])?;
-    print_row(to, 2, answer.count, peers[2], request_ids[2])?;
-    print_row(to, 3, answer.count, peers[3], request_ids[3])?;
-    print_out(to, b"")
-}
+    pub(crate) fn feed(&mut self, to: &mut impl Write, s: &[u8]) -> io::Result<()> {
+        let mut out_header = [0u8; 4096];
+        let mut out_body = [0u8; 65536];
+        let answer = hub::table::midici_pe_feed(
+            SHAPE,
+            &mut self.numbers,
+            &mut self.index,
+            &mut self.headers,
+            &mut self.arenas,
+            u32_at(s, 0),
+            from(s, 12),
+            u64_at(s, 4),
+            &mut out_header,
+            &mut out_body,
+        );
+        if answer.refusal != 0 {
+            print_refusal(to, answer.refusal, answer.value)?;
+            return print_out(to, b"");
+        }
+        print_byte(to, answer.whole)?;
+        print_value(to, answer.header_len)?;
+        print_value(to, answer.body_len)?;
+        print_parts(
+            to,
+            first(&out_header, answer.header_len as usize),
+            first(&out_body, answer.body_len as usize),
+        )
+    }
 
-pub(crate) fn memory_stats(to: &mut impl Write, numbers: &mut [u64]) -> io::Result<()> {
-    let answer = hub::table::midici_pe_memory_stats(SHAPE, numbers);
-    print_value(to, answer.reserved_bytes)?;
-    print_value(to, answer.active_bytes)?;
-    print_value(to, answer.active_slots)?;
-    print_out(to, b"")
+    pub(crate) fn cancel(&mut self, to: &mut impl Write, s: &[u8]) -> io::Result<()> {
+        let answer = hub::table::midici_pe_cancel(
+            SHAPE,
+            &mut self.numbers,
+            u32_at(s, 0),
+            u8_at(s, 4),
+        );
+        print_answer(to, answer)?;
+        print_out(to, b"")
+    }
+
+    pub(crate) fn drop_peer(&mut self, to: &mut impl Write, s: &[u8]) -> io::Result<()> {
+        let answer = hub::table::midici_pe_drop_peer(SHAPE, &mut self.numbers, u32_at(s, 0));
+        print_answer(to, answer)?;
+        print_out(to, b"")
+    }
+
+    pub(crate) fn poll(&mut self, to: &mut impl Write, s: &[u8]) -> io::Result<()> {
+        let mut peers = [0u64; 4];
+        let mut request_ids = [0u64; 4];
+        let answer = hub::table::midici_pe_poll(
+            SHAPE,
+            &mut self.numbers,
+            u64_at(s, 0),
+            &mut peers,
+            &mut request_ids,
+        );
+        print_answer(to, answer)?;
+        for (peer, request_id) in peers.iter().zip(&request_ids).take(answer.count as usize) {
+            print_value(to, *peer)?;
+            print_value(to, *request_id)?;
+        }
+        print_out(to, b"")
+    }
+
+    pub(crate) fn memory_stats(&mut self, to: &mut impl Write) -> io::Result<()> {
+        let answer = hub::table::midici_pe_memory_stats(SHAPE, &mut self.numbers);
+        print_value(to, answer.reserved_bytes)?;
+        print_value(to, answer.active_bytes)?;
+        print_value(to, answer.active_slots)?;
+        print_out(to, b"")
+    }
 }

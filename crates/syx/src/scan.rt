@@ -18,15 +18,14 @@ fn has_stop(s: &[u8], inside: bool) -> bool
     ensures { result ≡ has_stop inside s.now }
 {
     let mut found = false;
-    let mut i = 0;
-    while i < s.len() {
-        found = found | ((s[i] == SYSEX_START) | (inside & (DATA_MAX < s[i])));
-        i += 1;
+    for b in s {
+        found |= (*b == SYSEX_START) | (inside & (DATA_MAX < *b));
     }
     found
 }
 
 // Passes whole blocks without such a byte: the next one is then less than a block away, or the file's end is.
+// A while: `chunks_exact(block).take_while(..).count()` is proved too, but took up to 1.11 times as long (a megabyte with none), and 0.2 KB more code.
 fn skip(file: &[u8], from: usize, inside: bool, block: usize) -> usize
     requires { (from ≤ length file.now) × (0 < block) }
     ensures { (from ≤ result) × (result ≤ length file.now)
@@ -43,7 +42,7 @@ fn skip(file: &[u8], from: usize, inside: bool, block: usize) -> usize
     i
 }
 
-// The first F0 from a place on; the file's end where there is none.
+// The first F0 from a place on; the file's end where there is none (no Option: the walk goes on from there, and ends by itself).
 pub(crate) fn find_start(file: &[u8], from: usize) -> usize
     requires { from ≤ length file.now }
     ensures { (result ≤ length file.now) × (result ≡ from + stop_len false (drop from file.now)) }
@@ -67,8 +66,5 @@ pub(crate) fn find_status(file: &[u8], from: usize) -> usize
 pub(crate) fn is_end(file: &[u8], at: usize) -> bool
     ensures { result ≡ eqb (get_or file.now at 0) 0xF7 }
 {
-    if file.len() <= at {
-        return false;
-    }
-    file[at] == SYSEX_END
+    at < file.len() && file[at] == SYSEX_END
 }

@@ -6,45 +6,35 @@
 use pe_tape::command::{Command, FedChunk};
 use pe_tape::error::TapeError;
 use pe_tape::line::last_line;
-use pe_tape::read::{CommandRead, read_command};
-use pe_tape::write::{CommandWritten, write_command};
+use pe_tape::read::read_command;
+use pe_tape::write::write_command;
+use pe_wire::error::PeError;
+use seven_bit::refusal::Refusal;
 use std::io;
 use std::io::{BufWriter, Write};
 
-fn print_byte(to: &mut impl Write, b: u8) -> io::Result<()> {
-    write!(to, "{b:02x} ")
-}
-
-fn print_bytes(to: &mut impl Write, bytes: &[u8]) -> io::Result<()> {
-    let mut i = 0;
-    while i < bytes.len() {
-        print_byte(to, bytes[i])?;
-        i += 1;
-    }
-    Ok(())
-}
-
 // The bytes that were written, or why none were.
-fn print_written(to: &mut impl Write, written: CommandWritten, out: &[u8]) -> io::Result<()> {
+fn print_written(
+    to: &mut impl Write,
+    written: Result<usize, PeError>,
+    out: &[u8],
+) -> io::Result<()> {
     match written {
-        CommandWritten::Bytes(n) => {
-            if n <= out.len() {
-                print_bytes(to, &out[0..n])?;
+        Ok(n) => {
+            for b in out.iter().take(n) {
+                write!(to, "{b:02x} ")?;
             }
         }
-        CommandWritten::Refused(e) => {
-            let number = e.number();
-            write!(to, "r{number}")?;
-        }
+        Err(e) => write!(to, "r{}", e.number())?,
     }
-    to.write_all(b"\n")
+    writeln!(to)
 }
 
 // Reads the command that bytes begin with, and writes it again.
 fn print_again(to: &mut impl Write, tape: &[u8]) -> io::Result<()> {
     let mut out = [0u8; 32];
-    if let CommandRead::Next(command, _) = read_command(tape, 0) {
-        print_written(to, write_command(command, tape, &mut out), &out)?;
+    if let Ok(Some(read)) = read_command(tape, 0) {
+        print_written(to, write_command(read.command, tape, &mut out), &out)?;
     }
     Ok(())
 }
@@ -57,9 +47,7 @@ fn print_command(to: &mut impl Write, command: Command, source: &[u8]) -> io::Re
 
 fn print_last(to: &mut impl Write, e: TapeError) -> io::Result<()> {
     let last = last_line(e);
-    let bytes = last.bytes;
-    let len = last.len;
-    to.write_all(&bytes[..len])
+    to.write_all(&last.bytes[..last.len])
 }
 
 fn feed(peer: u32, now_ms: u64, chunk_at: usize, chunk_len: usize) -> Command {

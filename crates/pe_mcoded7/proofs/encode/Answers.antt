@@ -1,17 +1,9 @@
-use lib.ListN.{length}
 use native.Mathlib.Omega.{arith}
+use lib.ListN.{length}
 use Rattle.pe_mcoded7.proofs.TextLaws.{length_encoded}
-use Rattle.pe_mcoded7.proofs.AskLaws.{write_short, write_granted}
+use Rattle.pe_mcoded7.proofs.AskLaws.{write_granted}
 use Rattle.pe_mcoded7.proofs.StoreLaws.{put_written}
 use Rattle.pe_mcoded7.proofs.encode.Goals as goal
-
-pub returns-then-out-len : goal.returns-then-out-len
-returns-then-out-len c =
-    let a = c.args in
-    rw (write_short a.input.now (length a.out.now) (omega (arith, length_encoded a.input.now)))
-
-pub encode_into-requires : goal.encode_into-requires
-encode_into-requires c = omega (arith, length_encoded c.args.input.now)
 
 pub returns : goal.returns
 returns c =

@@ -9,9 +9,6 @@ use Rattle.seven_bit.proofs.copy_in.Goals as goal
 pub returns-then-dst-at : goal.returns-then-dst-at
 returns-then-dst-at c = sym (fit_no _ _ _ (omega arith))
 
-pub returns-then-dst-at-2 : goal.returns-then-dst-at-2
-returns-then-dst-at-2 c = sym (fit_no _ _ _ (omega arith))
-
 pub returns-then-src-lt32 : goal.returns-then-src-lt32
 returns-then-src-lt32 c =
     let a = c.args in
@@ -20,7 +17,7 @@ returns-then-src-lt32 c =
     ∙ copied_all a.dst.now a.at a.src.now fits (length a.src.now - 0) (omega arith)
     ∙ sym (fit_yes a.dst.now a.at a.src.now fits)
 
-pub returns : goal.returns
-returns c =
+pub returns-else-src-lt32 : goal.returns-else-src-lt32
+returns-else-src-lt32 c =
     let a = c.args in
     c.copy_long.ensures ∙ sym (fit_yes a.dst.now a.at a.src.now (omega arith))

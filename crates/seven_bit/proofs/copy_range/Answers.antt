@@ -1,11 +1,10 @@
-use mathlib.Core.Path.{◌≡◌, refl, sym, ap, ◌∙◌}
+use mathlib.Core.Path.{refl, sym, ap, ◌∙◌}
 use Prim.Native.Nat.{ℕ, ◌+◌, ◌-◌}
 use lib.ListN.{set, get_or, length-set}
 use native.Mathlib.Omega.{arith}
 use borrow.Author.Rules.{rules}
 use mathlib.Core.List.{List}
 use Rattle.seven_bit.proofs.CopyLaws.{none_copied, next_copied}
-use Rattle.seven_bit.specs.Parts.{part, put}
 use Rattle.seven_bit.proofs.copy_range.Goals as goal
 
 pub loop-i-init : goal.loop-i-init
@@ -19,10 +18,3 @@ loop-i-preserved c =
     let l = c.loop-i in
     let step = next_copied a.dst.now (a.at + a.from) a.src.now a.from (l.i - a.from) 0 (a.at + l.i) l.i (l.i + 1 - a.from) (omega arith) (omega arith) (omega arith) (search rules) in
     (search rules, search rules, ap (λ (d : List ℕ). set d (a.at + l.i) (get_or a.src.now l.i 0)) l.invariant.2 ∙ step, simp length-set l.invariant.3)
-
-pub returns : goal.returns
-returns c =
-    let a = c.args in
-    let l = c.loop-i in
-    let e : l.i ≡ a.to = omega arith in
-    l.invariant.2 ∙ ap (λ (i : ℕ). put a.dst.now (a.at + a.from) (part a.from (i - a.from) a.src.now)) e

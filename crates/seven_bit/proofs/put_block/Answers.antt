@@ -4,8 +4,6 @@ use lib.ListN.{length, set, get_or, length-set}
 use native.Mathlib.Omega.{arith}
 use borrow.Author.Rules.{rules}
 use mathlib.Core.List.{List}
-use lib.Seq.{take_all}
-use Rattle.seven_bit.specs.Parts.{put}
 use Rattle.seven_bit.proofs.PartLaws.{put_none, put_next}
 use Rattle.seven_bit.proofs.put_block.Goals as goal
 
@@ -20,10 +18,3 @@ loop-i-preserved c =
     let n : length a.block ≡ 16 = search rules in
     let step = put_next a.dst.now a.at a.block l.i 0 (omega (arith, n)) in
     (search rules, ap (λ (d : List ℕ). set d (a.at + l.i) (get_or a.block l.i 0)) l.invariant.1 ∙ step, simp length-set l.invariant.2)
-
-pub returns : goal.returns
-returns c =
-    let a = c.args in
-    let l = c.loop-i in
-    let n : length a.block ≡ 16 = search rules in
-    l.invariant.1 ∙ ap (λ (bs : List ℕ). put a.dst.now a.at bs) (take_all l.i a.block (omega (arith, n)))

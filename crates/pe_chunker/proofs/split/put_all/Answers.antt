@@ -16,34 +16,32 @@ use Rattle.pe_chunker.proofs.split.put_all.Goals.{After-put_piece-len}
 -- the chunk's length: that of a chunk of the cut, which the limit bounds
 short : (c : After-put_piece-len) → c.put_piece-len.result ≤ max_sysex_max
 short c =
-    let a = c.args in
-    let k = c.loop-k.k in
-    let s = chunk_short a.request_id a.header.now a.body.now a.max_sysex (k + 1) c.requires.cut.fits (omega arith) in
-    omega (arith, s, budget_between a.max_sysex, c.put_piece-len.ensures.0)
+    let a = c.args.list in
+    let s = chunk_short a.request_id a.header.now a.body.now a.max_sysex (c.loop-k.k + 1) c.requires.cut.asked.fits (omega arith) in
+    omega (arith, s, budget_between a.max_sysex, c.put_piece-len.ensures.length)
 
 -- and the chunks with it fit
-fits : (c : After-put_piece-len) → let a = c.args in
+fits : (c : After-put_piece-len) → let a = c.args.list in
     length (joined (first_chunks a.request_id a.header.now a.body.now a.max_sysex (c.loop-k.k + 1)))
-    ≤ length a.out.now
+    ≤ length c.args.out.now
 fits c =
-    let a = c.args in
-    let n = c.requires.body_len.0 in
+    let a = c.args.list in
     next_fits a.request_id a.header.now a.body.now a.max_sysex c.loop-k.k _
-    (length a.out.now)
-    (omega (arith, n, c.loop-k-test.true)) c.requires.body_len.1
+    (length c.args.out.now)
+    (omega (arith, c.requires.cut.count)) c.requires.room.0
 
 -- where the next one goes
-next-at : (c : After-put_piece-len) → let a = c.args in let l = c.loop-k in
+next-at : (c : After-put_piece-len) → let a = c.args.list in let l = c.loop-k in
     l.at + c.put_piece-len.result ≡ length (joined (first_chunks a.request_id a.header.now a.body.now a.max_sysex (l.k + 1)))
 next-at c =
-    let a = c.args in
+    let a = c.args.list in
     let l = c.loop-k in
-    let e : c.put_piece-len.result ≡ chunk_len (chunk_at a.request_id a.header.now a.body.now a.max_sysex (l.k + 1)) = c.put_piece-len.ensures.0 in
-    let i : l.at ≡ length (joined (first_chunks a.request_id a.header.now a.body.now a.max_sysex l.k)) = l.invariant.1 in
+    let e : c.put_piece-len.result ≡ chunk_len (chunk_at a.request_id a.header.now a.body.now a.max_sysex (l.k + 1)) = c.put_piece-len.ensures.length in
+    let i : l.at ≡ length (joined (first_chunks a.request_id a.header.now a.body.now a.max_sysex l.k)) = l.invariant.0 in
     omega (arith, i, e, next_size a.request_id a.header.now a.body.now a.max_sysex l.k)
 
 pub loop-k-init : goal.loop-k-init
-loop-k-init c = (omega arith, unfold first_chunks joined in refl, unfold first_chunks joined in sym (put_none _ 0), unfold first_chunks in sym (put_none _ 0))
+loop-k-init c = (unfold first_chunks joined in refl, unfold first_chunks joined in sym (put_none _ 0), unfold first_chunks in sym (put_none _ 0))
 
 pub overflow_cast-lengths : goal.overflow_cast-lengths
 overflow_cast-lengths c = let h = short (goal.at.overflow_cast-lengths c).After-put_piece-len in omega arith
@@ -57,11 +55,10 @@ overflow_add-at c =
 pub loop-k-preserved : goal.loop-k-preserved
 loop-k-preserved c =
     let w = (goal.at.loop-k-preserved c).After-put_piece-len in
-    let a = c.args in
+    let a = c.args.list in
     let l = c.loop-k in
     let r = c.put_piece-len.ensures in (
-      omega (arith, c.loop-k-test.true),
       next-at w,
-      r.1 ∙ next_put a.request_id a.header.now a.body.now a.max_sysex l.k _ a.out.now _ l.invariant.1 l.invariant.2 (fits w),
-      next_column a.request_id a.header.now a.body.now a.max_sysex l.k _ a.lengths.now _ r.0 l.invariant.3,
+      r.stored ∙ next_put a.request_id a.header.now a.body.now a.max_sysex l.k _ c.args.out.now _ l.invariant.0 l.invariant.1 (fits w),
+      next_column a.request_id a.header.now a.body.now a.max_sysex l.k _ c.args.lengths.now _ r.length l.invariant.2,
     )

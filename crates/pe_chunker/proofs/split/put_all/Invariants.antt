@@ -1,4 +1,3 @@
-use Prim.Native.Nat.{◌-◌, ◌≤◌}
 use mathlib.Core.List.{map}
 use mathlib.Core.Path.{◌≡◌}
 use lib.ListN.{length}
@@ -8,10 +7,6 @@ use Rattle.pe_chunker.proofs.split.put_all.Given as goal
 
 abbrev pub invariant-loop-k : goal.invariant-loop-k
 invariant-loop-k l =
-    (l.k ≤ l.num_chunks)
-    × (l.at ≡ length (joined (first_chunks l.request_id l.header l.body l.max_sysex l.k)))
-    × (l.out ≡ put l.initial.out 0 (joined (first_chunks l.request_id l.header l.body l.max_sysex l.k)))
-    × (l.lengths ≡ put l.initial.lengths 0 (map length (first_chunks l.request_id l.header l.body l.max_sysex l.k)))
-
-abbrev pub decreases-loop-k : goal.decreases-loop-k
-decreases-loop-k l = l.num_chunks - l.k
+    (l.at ≡ length (joined (first_chunks l.list.request_id l.list.header.now l.list.body.now l.list.max_sysex l.k)))
+    × (l.out ≡ put l.initial.out 0 (joined (first_chunks l.list.request_id l.list.header.now l.list.body.now l.list.max_sysex l.k)))
+    × (l.lengths ≡ put l.initial.lengths 0 (map length (first_chunks l.list.request_id l.list.header.now l.list.body.now l.list.max_sysex l.k)))

@@ -1,9 +1,9 @@
-use mathlib.Core.Bool.{true, ◌||◌, or-true}
+use mathlib.Core.Bool.{true}
 use mathlib.Core.Path.{◌≡◌, sym, ◌∙◌}
 use Prim.Native.Nat.{◌+◌}
 use native.Mathlib.Omega.{arith}
-use borrow.Author.Tests.{le-leb, lt-leb, eq-eqb, ne_eqb}
-use lib.Dec.{eqb}
+use borrow.Author.Tests.{le-leb, lt-leb}
+use Rattle.std.proofs.lemmas.Bool.Decides.{nat_tests}
 use lib.ListN.{length, take}
 use Rattle.seven_bit.specs.Parts.{part}
 use Rattle.seven_bit.specs.SevenBit.{is_seven_bit}
@@ -11,7 +11,7 @@ use Rattle.seven_bit.proofs.SevenBitLaws.{seven_bit_take, seven_bit_part}
 use Rattle.pe_frame.specs.Chunk.{read_end, read_fields}
 use Rattle.pe_frame.proofs.ChunkLaws.{low_short, low_fields}
 use Rattle.pe_frame.proofs.frame.decode_low.Goals as goal
-use Rattle.pe_frame.proofs.frame.decode_low.Goals.{After-u14_at-nd, Joined-chunk_num-ne1, Start, then-chunk_num-ne1+else-nh-ne0, else-chunk_num-ne1}
+use Rattle.pe_frame.proofs.frame.decode_low.Goals.{After-u14_at-nd, Start}
 
 all : (c : Start) → is_seven_bit (take (length c.args.«data».now) c.args.«data».now) ≡ true
 all c = seven_bit_take (length c.args.«data».now) c.args.«data».now c.requires.1
@@ -25,14 +25,6 @@ behind c =
 
 property : (c : After-u14_at-nd) → is_seven_bit (part (9 + c.u14_at-nh.result) c.u14_at-nd.result c.args.«data».now) ≡ true
 property c = seven_bit_part (9 + c.u14_at-nh.result) c.u14_at-nd.result c.args.«data».now c.requires.1
-
--- number 1, or no header
-first : (c : Joined-chunk_num-ne1) → (eqb c.u14_at-chunk_num.result 1 || eqb c.u14_at-nh.result 0) ≡ true
-first c =
-    elim c.if-chunk_num-ne1.branch [
-      | then-chunk_num-ne1+else-nh-ne0 w ↦ rw (eq-eqb _ _ w.if-nh-ne0.false) (or-true (eqb c.u14_at-chunk_num.result 1))
-      | else-chunk_num-ne1 w ↦ rw (eq-eqb _ _ w.if-chunk_num-ne1.false)
-    ]
 
 pub returns-then-data-property_at : goal.returns-then-data-property_at
 returns-then-data-property_at c =
@@ -49,23 +41,17 @@ returns-then-property_at-nd c = rw (behind (goal.at.returns-then-property_at-nd 
 pub returns-then-nh-ne0 : goal.returns-then-nh-ne0
 unfolding read_end
 returns-then-nh-ne0 c =
-    rw (
-      behind (goal.at.returns-then-nh-ne0 c).After-u14_at-nd,
-      le-leb _ _ c.if-data-property_at-2.false,
-      le-leb _ _ c.if-property_at-nd.false,
-      property (goal.at.returns-then-nh-ne0 c).After-u14_at-nd,
-      ne_eqb _ _ c.if-chunk_num-ne1.true,
-      ne_eqb _ _ c.if-nh-ne0.true,
-    )
+    let at = (goal.at.returns-then-nh-ne0 c).After-u14_at-nd in
+    grind (arith, nat_tests, behind at, property at)
 
 pub returns-then-not-is_within_count : goal.returns-then-not-is_within_count
 unfolding read_end
 returns-then-not-is_within_count c =
-    let w = sym c.is_within_count.ensures ∙ c.if-not-is_within_count.true in
-    rw (behind (goal.at.returns-then-not-is_within_count c).After-u14_at-nd, le-leb _ _ c.if-data-property_at-2.false, le-leb _ _ c.if-property_at-nd.false, property (goal.at.returns-then-not-is_within_count c).After-u14_at-nd, first (goal.at.returns-then-not-is_within_count c).Joined-chunk_num-ne1, w)
+    let at = (goal.at.returns-then-not-is_within_count c).After-u14_at-nd in
+    grind (arith, nat_tests, behind at, property at)
 
 pub returns : goal.returns
 unfolding read_end
 returns c =
-    let w = sym c.is_within_count.ensures ∙ c.if-not-is_within_count.false in
-    rw (behind (goal.at.returns c).After-u14_at-nd, le-leb _ _ c.if-data-property_at-2.false, le-leb _ _ c.if-property_at-nd.false, property (goal.at.returns c).After-u14_at-nd, first (goal.at.returns c).Joined-chunk_num-ne1, w)
+    let at = (goal.at.returns c).After-u14_at-nd in
+    grind (arith, nat_tests, behind at, property at)

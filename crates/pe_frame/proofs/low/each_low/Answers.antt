@@ -1,16 +1,12 @@
-use mathlib.Core.Path.{sym}
-use native.Mathlib.Omega.{arith}
-use borrow.Author.Rules.{rules}
-use Rattle.pe_frame.proofs.LowLaws.{front_none, front_next, high_at}
+use mathlib.Core.Path.{◌∙◌}
+use lib.Dec.{leb}
+use Rattle.std.proofs.Common.{rules, tests}
+use Rattle.std.proofs.lemmas.Iterator.{YieldsList-from_slice}
+use Rattle.std.proofs.lemmas.Iterator.Search.{all_from_yields_List}
+use Rattle.pe_frame.proofs.LowLaws.{all_low_is}
 use Rattle.pe_frame.proofs.low.each_low.Goals as goal
 
-pub loop-i-init : goal.loop-i-init
-loop-i-init c = (omega arith, front_none c.args.s.now)
-
-pub returns-then-s-i-gt127 : goal.returns-then-s-i-gt127
-returns-then-s-i-gt127 c = sym (high_at _ _ c.if-s-i-gt127.true)
-
-pub loop-i-preserved : goal.loop-i-preserved
-loop-i-preserved c =
-    let l = c.loop-i in
-    (search rules, front_next c.args.s.now l.i (search rules) l.invariant.1 c.if-s-i-gt127.false)
+pub returns : goal.returns
+returns c =
+    all_from_yields_List (λ b. leb b 127) _ _ c.all.result c.all.ensures.ran (YieldsList-from_slice c.args.s.now cc) (λ x b q k. search (rules, tests))
+    ∙ all_low_is c.args.s.now

@@ -1,4 +1,4 @@
-use Prim.Native.Nat.{◌-◌, ◌≤◌}
+use Prim.Native.Nat.{◌≤◌}
 use mathlib.Core.Bool.{◌&&◌}
 use mathlib.Core.Path.{◌≡◌}
 use lib.ListN.{length}
@@ -8,7 +8,4 @@ use Rattle.pe_frame.proofs.low.gather.Given as goal
 
 abbrev pub invariant-loop-i : goal.invariant-loop-i
 invariant-loop-i l =
-    (l.i ≤ l.k) × (length l.largest ≡ length l.initial.largest) × (is_seven_bit l.largest ≡ (is_seven_bit l.initial.largest && is_seven_bit (part l.at l.i l.s)))
-
-abbrev pub decreases-loop-i : goal.decreases-loop-i
-decreases-loop-i l = l.k - l.i
+    (length l.largest ≡ length l.initial.largest) × (is_seven_bit l.largest ≡ (is_seven_bit l.initial.largest && is_seven_bit (part l.at l.i l.s)))

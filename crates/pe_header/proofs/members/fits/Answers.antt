@@ -1,11 +1,6 @@
-use mathlib.Core.Path.{refl}
-use native.Mathlib.Omega.{arith}
 use Rattle.pe_header.proofs.NumberLaws.{next_digit, too_large, all_read}
 use borrow.Author.Rules.{rules}
 use Rattle.pe_header.proofs.members.fits.Goals as goal
-
-pub loop-i-init : goal.loop-i-init
-loop-i-init c = (omega arith, λ ds rest a w u. record { left = ds; digits = a; there = w; until = u; same = refl })
 
 pub returns-then-n-gt65535 : goal.returns-then-n-gt65535
 returns-then-n-gt65535 c ds rest a w u =

@@ -1,7 +1,7 @@
 use mathlib.Core.Path.{◌≡◌}
 use mathlib.Core.Bool.{true}
 use mathlib.Core.List.{List, ◌++◌}
-use Prim.Native.Nat.{ℕ, ◌+◌, ◌-◌, ◌≤◌}
+use Prim.Native.Nat.{ℕ, ◌+◌, ◌≤◌}
 use lib.ListN.{length, drop}
 use Rattle.flat_json.specs.Tree.{is_digit, all}
 use Rattle.pe_header.proofs.NumberLaws.{Digits}
@@ -10,6 +10,3 @@ use Rattle.pe_header.proofs.members.fits.Given as goal
 abbrev pub invariant-loop-i : goal.invariant-loop-i
 invariant-loop-i l = (l.n ≤ 65535) × ((ds rest : List ℕ) → all is_digit ds ≡ true → drop l.from l.text ≡ ds ++ rest → l.to ≡ l.from + length ds
     → Digits l.text l.to l.n l.i ds rest)
-
-abbrev pub decreases-loop-i : goal.decreases-loop-i
-decreases-loop-i l = l.to - l.i

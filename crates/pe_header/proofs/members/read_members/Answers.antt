@@ -35,7 +35,7 @@ next_member-walk-requires c =
 pub loop-walk-smaller : goal.loop-walk-smaller
 loop-walk-smaller c =
     let h = c.loop-walk-test.true in
-    let f = c.next_member-walk.ensures.place_lt_place.0 in
+    let f = c.next_member-walk.ensures.goes_on.0 in
     omega arith
 
 pub loop-walk-preserved : goal.loop-walk-preserved
@@ -43,12 +43,12 @@ loop-walk-preserved c =
     let l = c.loop-walk in
     let n = c.next_member-walk in
     let e = n.ensures in (
-      e.place_lt_place.1,
-      e.place_lt_place.2,
-      λ h. (let x = l.invariant.2 c.loop-walk-test.true in let y = e.place_lt_place.0 in omega arith),
-      l.invariant.3 ∙ e.text_value,
+      e.goes_on.1,
+      e.goes_on.2,
+      λ h. (let x = l.invariant.2 c.loop-walk-test.true in let y = e.goes_on.0 in omega arith),
+      l.invariant.3 ∙ e.same_run,
       c.next_member-walk.auto.names ∙ l.invariant.4,
-      λ from es room s. e.by_index from es (subst (λ (k : ℕ). length es ≤ k) (sym l.invariant.4) room) (l.invariant.5 from es room s),
+      λ from es room s. e.so_far from es (subst (λ (k : ℕ). length es ≤ k) (sym l.invariant.4) room) (l.invariant.5 from es room s),
     )
 
 pub returns : goal.returns
@@ -56,7 +56,7 @@ returns c =
     let l = c.loop-walk in
     let a = c.args in
     let h = c.loop-walk-test.false in record {
-      state_value = sym (l.invariant.3 ∙ run_end a.table.now a.text.now l.walk.at.state l.walk.at.place (search rules));
+      state = sym (l.invariant.3 ∙ run_end a.table.now a.text.now l.walk.at.state l.walk.at.place (search rules));
       all_read = λ t g e room. finished a.text.now a.name.now (length t.before + 1) (list t.inside) l.names l.walk (search rules)
           (l.invariant.5 (length t.before + 1) (list t.inside) room
           (started a.table.now c.requires.0 a.text.now a.name.now a.names.now t g e c.reach.result

@@ -42,7 +42,7 @@ returns-then-state-eq-IN_NUMBER c =
     let at = c.turn-at.result in
     let p = told _ _ _ _ (steps (goal.at.returns-then-state-eq-IN_NUMBER c).After-turn-first) (bare first.state first.place (at.place - 1) at) (after-number (goal.at.returns-then-state-eq-IN_NUMBER c).After-turn-at) (omega arith)
     (read_number _ _ first at c.if-state-eq-IN_NUMBER.true c.turn-at.ensures) in
-    record { text_value = p.0; place_in_bounds = p.1.0; place_lt_place = p.1.1.0; read_right = p.1.1.1 }
+    record { same_run = p.0; within = p.1.0; goes_on = p.1.1.0; read_right = p.1.1.1 }
 
 pub overflow_sub-result-then-state-eq-IN_STRING : goal.overflow_sub-result-then-state-eq-IN_STRING
 overflow_sub-result-then-state-eq-IN_STRING c =
@@ -57,7 +57,7 @@ returns-then-state-eq-IN_STRING c =
     let at = c.reach-at.result in
     let p = told _ _ _ _ (steps (goal.at.returns-then-state-eq-IN_STRING c).After-turn-first) (quoted first.state first.place (at.place - 1) at) (after-other (goal.at.returns-then-state-eq-IN_STRING c).After-reach-at) (omega arith)
     (read_string _ _ first at c.if-state-eq-IN_NUMBER.false c.if-state-eq-IN_STRING.true c.reach-at.ensures) in
-    record { text_value = p.0; place_in_bounds = p.1.0; place_lt_place = p.1.1.0; read_right = p.1.1.1 }
+    record { same_run = p.0; within = p.1.0; goes_on = p.1.1.0; read_right = p.1.1.1 }
 
 pub overflow_sub-result-2 : goal.overflow_sub-result-2
 overflow_sub-result-2 c = (after-other (goal.at.overflow_sub-result-2 c).After-reach-at).begun
@@ -68,4 +68,4 @@ returns c =
     let at = c.reach-at.result in
     let p = told _ _ _ _ (steps (goal.at.returns c).After-turn-first) (bare first.state first.place at.place at) (after-other (goal.at.returns c).After-reach-at) (omega arith)
     (read_other _ _ first at c.if-state-eq-IN_NUMBER.false c.if-state-eq-IN_STRING.false c.reach-at.ensures) in
-    record { text_value = p.0; place_in_bounds = p.1.0; place_lt_place = p.1.1.0; read_right = p.1.1.1 }
+    record { same_run = p.0; within = p.1.0; goes_on = p.1.1.0; read_right = p.1.1.1 }

@@ -1,33 +1,25 @@
-use mathlib.Core.Path.{sym, ◌∙◌}
+use mathlib.Core.Path.{refl, sym, ◌∙◌}
 use native.Mathlib.Omega.{arith}
-use borrow.Author.Rules.{rules}
 use Rattle.pe_header.proofs.UnitLaws.{none_left, short_there, no_room, long_there}
 use Rattle.pe_header.proofs.names.escaped_at.Goals as goal
 
-pub returns-then-at-text : goal.returns-then-at-text
-returns-then-at-text c =
+pub returns-then-at-text-clause-escape_at : goal.returns-then-at-text-clause-escape_at
+returns-then-at-text-clause-escape_at c =
     let a = c.args in
-    record { at_le_next = search rules; escape_at = none_left a.text.now a.at 65536 a.at (omega arith) }
+    none_left a.text.now a.at _ (omega arith)
 
-pub returns-then-step-eq-IN_NAME : goal.returns-then-step-eq-IN_NAME
-returns-then-step-eq-IN_NAME c =
+pub returns-then-step-eq-IN_NAME-clause-escape_at : goal.returns-then-step-eq-IN_NAME-clause-escape_at
+returns-then-step-eq-IN_NAME-clause-escape_at c =
     let a = c.args in
-    let right = c.requires.0 in
-    let u = c.short_unit.ensures in
-    let t = sym c.step.ensures ∙ c.if-step-eq-IN_NAME.true in
-    record { at_le_next = search rules; escape_at = short_there a.table.now right a.text.now a.at _ u.upper_bound u.value t }
+    short_there a.table.now c.requires.0 a.text.now a.at _ c.short_unit.ensures.value refl (sym c.step.ensures ∙ c.if-step-eq-IN_NAME.true)
 
-pub returns-then-text-at-lt5 : goal.returns-then-text-at-lt5
-returns-then-text-at-lt5 c =
+pub returns-then-text-at-lt5-clause-escape_at : goal.returns-then-text-at-lt5-clause-escape_at
+returns-then-text-at-lt5-clause-escape_at c =
     let a = c.args in
-    let right = c.requires.0 in
-    let t = c.step.ensures in
-    record { at_le_next = search rules; escape_at = no_room a.table.now right a.text.now a.at (λ e. c.if-step-eq-IN_NAME.false (t ∙ e)) c.if-text-at-lt5.true 65536 a.at }
+    no_room a.table.now c.requires.0 a.text.now a.at (λ e. c.if-step-eq-IN_NAME.false (c.step.ensures ∙ e)) c.if-text-at-lt5.true _
 
-pub returns : goal.returns
-returns c =
+pub returns-clause-escape_at : goal.returns-clause-escape_at
+returns-clause-escape_at c =
     let a = c.args in
-    let t = c.step.ensures in
-    let n = c.if-step-eq-IN_NAME.false in
-    let high = c.hex_pair.ensures.pair_at in
-    record { at_le_next = search rules; escape_at = long_there a.table.now c.requires.0 a.text.now a.at _ _ (λ e. n (t ∙ e)) high c.hex_pair-2.ensures.pair_at }
+    long_there a.table.now c.requires.0 a.text.now a.at _ _ (λ e. c.if-step-eq-IN_NAME.false (c.step.ensures ∙ e)) c.hex_pair.ensures.pair_at
+    c.hex_pair-2.ensures.pair_at _ refl refl

@@ -1,40 +1,27 @@
-use mathlib.Core.Bool.{false}
-use Prim.Native.Nat.{◌<◌}
-use lib.ListN.{get_or}
-use native.Mathlib.Omega.{arith}
 use borrow.Author.Rules.{rules}
-use Rattle.pe_header.proofs.NameLaws.{name_inside, named_over, named_not, named_on}
+use Rattle.pe_header.proofs.NameLaws.{named_over, named_short, named_not, named_on}
 use Rattle.pe_header.proofs.names.is_named.Goals as goal
 
-pub loop-i-init : goal.loop-i-init
-loop-i-init c = (search rules, λ t h. h)
-
-pub returns-then-k-name : goal.returns-then-k-name
-returns-then-k-name c =
+pub returns-in_default : goal.returns-in_default
+returns-in_default c =
     let a = c.args in
-    let l = c.loop-i in
-    l.invariant.1 _ (named_over a.text.now l.i _ _ c.unit_at-a.ensures.unit_at a.name.now l.k c.if-k-name.true)
+    let l = c.loop-b in
+    l.invariant _ (named_not a.text.now l.i a.name.now l.b-index (search rules) c.in-Some.a c.in-Some.ensures.unit_at c.if-a-b.false)
 
-pub overflow_cast-name : goal.overflow_cast-name
-overflow_cast-name c = omega (arith, c.type_inv.name c.loop-i.k)
-
-pub returns-then-a-name : goal.returns-then-a-name
-returns-then-a-name c =
+pub returns-in_default-2 : goal.returns-in_default-2
+returns-in_default-2 c =
     let a = c.args in
-    let l = c.loop-i in
-    let u = c.unit_at-a.ensures.unit_at in
-    l.invariant.1 _ (named_not a.text.now l.i _ _ u a.name.now l.k (search rules) c.if-a-name.true)
+    let l = c.loop-b in
+    l.invariant _ (named_short a.text.now l.i a.name.now l.b-index (search rules) c.in_default.ensures.unit_at)
 
-pub loop-i-preserved : goal.loop-i-preserved
-loop-i-preserved c =
+pub loop-b-preserved : goal.loop-b-preserved
+loop-b-preserved c =
     let a = c.args in
-    let l = c.loop-i in
-    let b : get_or a.name.now l.k 0 < 256 = omega (arith, c.type_inv.name l.k) in
-    let u = c.unit_at-a.ensures.unit_at in
-    (search rules, λ t h. l.invariant.1 t (named_on a.text.now l.i _ _ u a.name.now l.k (omega arith) b c.if-a-name.false t h))
+    let l = c.loop-b in
+    λ t h. l.invariant t (named_on a.text.now l.i a.name.now l.b-index (search rules) c.in-Some.a c.in-Some.ensures.unit_at c.if-a-b.true t h)
 
 pub returns : goal.returns
 returns c =
     let a = c.args in
-    let l = c.loop-i in
-    l.invariant.1 false (λ ps x. let h = name_inside a.text.now l.i ps x in absurd (omega arith))
+    let l = c.loop-b in
+    l.invariant _ (named_over a.text.now l.i a.name.now l.b-index (search rules) c.unit_at-2.result c.unit_at-2.ensures.unit_at _ c.is_none.ensures)

@@ -1,43 +1,27 @@
-use mathlib.Core.Bool.{true, false}
-use native.Mathlib.Omega.{arith}
-use Rattle.pe_header.proofs.NameLaws.{name_inside, same_not, same_over, same_on}
+use Rattle.pe_header.proofs.NameLaws.{same_over, same_short, same_not, same_on}
 use Rattle.pe_header.proofs.names.same_name.Goals as goal
 
-pub loop-i-init : goal.loop-i-init
-loop-i-init c = λ t h. h
+pub loop-a-preserved : goal.loop-a-preserved
+loop-a-preserved c =
+    let l = c.loop-a in
+    let x = c.in-Some in
+    let y = c.in-Some-unit_at in
+    λ t h. l.invariant t (same_on c.args.text.now l.i l.j x.a x.ensures.unit_at y.b y.ensures.unit_at c.if-a-b.true t h)
 
-pub returns-then-text-j : goal.returns-then-text-j
-returns-then-text-j c =
-    let a = c.args in
-    let l = c.loop-i in
-    l.invariant false (λ ps qs x y. let h = name_inside a.text.now l.j qs y in absurd (omega arith))
+pub returns-in_default-unit_at : goal.returns-in_default-unit_at
+returns-in_default-unit_at c =
+    let l = c.loop-a in
+    let x = c.in-Some in
+    let y = c.in-Some-unit_at in
+    l.invariant _ (same_not c.args.text.now l.i l.j x.a x.ensures.unit_at y.b y.ensures.unit_at c.if-a-b.false)
 
-pub returns-then-a-b : goal.returns-then-a-b
-returns-then-a-b c =
-    let a = c.args in
-    let l = c.loop-i in
-    let u = c.unit_at-a.ensures.unit_at in
-    let v = c.unit_at-b.ensures.unit_at in
-    l.invariant false (same_not a.text.now l.i l.j _ _ _ _ u v c.if-a-b.true)
-
-pub returns-then-a-eq-NO_UNIT : goal.returns-then-a-eq-NO_UNIT
-returns-then-a-eq-NO_UNIT c =
-    let a = c.args in
-    let l = c.loop-i in
-    let u = c.unit_at-a.ensures.unit_at in
-    let v = c.unit_at-b.ensures.unit_at in
-    l.invariant true (same_over a.text.now l.i l.j _ _ _ _ u v c.if-a-b.false c.if-a-eq-NO_UNIT.true)
-
-pub loop-i-preserved : goal.loop-i-preserved
-loop-i-preserved c =
-    let a = c.args in
-    let l = c.loop-i in
-    let u = c.unit_at-a.ensures.unit_at in
-    let v = c.unit_at-b.ensures.unit_at in
-    λ t h. l.invariant t (same_on a.text.now l.i l.j _ _ _ _ u v c.if-a-b.false c.if-a-eq-NO_UNIT.false t h)
+pub returns-in_default-unit_at-2 : goal.returns-in_default-unit_at-2
+returns-in_default-unit_at-2 c =
+    let l = c.loop-a in
+    let x = c.in-Some in
+    l.invariant _ (same_short c.args.text.now l.i l.j x.a x.ensures.unit_at c.in_default-unit_at.ensures.unit_at)
 
 pub returns : goal.returns
 returns c =
-    let a = c.args in
-    let l = c.loop-i in
-    l.invariant false (λ ps qs x y. let h = name_inside a.text.now l.i ps x in absurd (omega arith))
+    let l = c.loop-a in
+    l.invariant _ (same_over c.args.text.now l.i l.j c.in_default.ensures.unit_at c.unit_at-2.result c.unit_at-2.ensures.unit_at _ c.is_none.ensures)

@@ -15,8 +15,8 @@ Whole text names prints k print j =
     (ps : List Piece) → NameAt text (get_or names k 0) ps → print ≡ print_of (units ps) → (t : Bool)
     → IsAmong text (slice j k names) (slice j k prints) ps t → IsAmong text (take k names) (take k prints) ps t
 
-abbrev pub invariant-loop-j : goal.invariant-loop-j
-invariant-loop-j l = (l.j ≤ l.k) × Whole l.text l.names l.prints l.k l.print l.j
+abbrev pub invariant-loop-at : goal.invariant-loop-at
+invariant-loop-at l = (l.j ≤ l.k) × Whole l.text l.names l.prints l.k l.print l.j
 
-abbrev pub decreases-loop-j : goal.decreases-loop-j
-decreases-loop-j l = l.k - l.j
+abbrev pub decreases-loop-at : goal.decreases-loop-at
+decreases-loop-at l = l.k - l.j

@@ -1,7 +1,7 @@
 use mathlib.Core.Bool.{Bool}
 use mathlib.Core.List.{List}
 use mathlib.Core.Path.{◌≡◌}
-use Prim.Native.Nat.{◌-◌, ◌≤◌}
+use Prim.Native.Nat.{◌≤◌}
 use lib.ListN.{length, take}
 use lib.Seq.{slice}
 use Rattle.flat_json.specs.Tree.{Entry}
@@ -15,6 +15,3 @@ invariant-loop-k l =
     (l.k ≤ l.count) × (length l.prints ≡ length l.initial.prints)
     × ((t : Bool) → Twice l.text (take l.k l.names) (take l.k l.prints) (slice l.k l.count l.names) t
     → (es : List Entry) → NamesAt l.text (take l.count l.names) es → t ≡ repeated es)
-
-abbrev pub decreases-loop-k : goal.decreases-loop-k
-decreases-loop-k l = l.count - l.k

@@ -1,11 +1,12 @@
-use mathlib.Core.Path.{◌≡◌}
-use Prim.Native.Nat.{◌-◌, ◌≤◌}
-use lib.ListN.{length, drop}
+use Rattle.std.specs.Prelude.{◌≡◌}
+use Rattle.std.specs.Slice.Iter.{chunks_rest, chunks_size}
 use Rattle.pe_mcoded7.proofs.AskLaws.{ask_text}
 use Rattle.pe_mcoded7.proofs.groups.check.Given as goal
 
-abbrev pub invariant-loop-i : goal.invariant-loop-i
-invariant-loop-i l = (l.i ≤ length l.input) × (ask_text l.input ≡ ask_text (drop l.i l.input))
-
-abbrev pub decreases-loop-i : goal.decreases-loop-i
-decreases-loop-i l = length l.input - l.i
+abbrev pub invariant-loop-group : goal.invariant-loop-group
+invariant-loop-group l = record {
+  next : (goal.iterator-loop-group).can_next l.group-iterator;
+  finite : (goal.iterator-loop-group).is_finite l.group-iterator;
+  size : chunks_size l.group-iterator ≡ 8;
+  left : ask_text l.input ≡ ask_text (chunks_rest l.group-iterator);
+}

@@ -1,16 +1,14 @@
-use mathlib.Core.Path.{◌≡◌}
-use Prim.Native.Nat.{◌+◌, ◌-◌, ◌≤◌, ◌/◌}
-use lib.ListN.{length, drop}
+use Rattle.std.specs.Prelude.{◌≡◌, ◌+◌, ◌≤◌, length}
+use Rattle.std.specs.Slice.Iter.{chunks_rest, chunks_size}
 use Rattle.seven_bit.specs.Parts.{put}
 use Rattle.pe_mcoded7.specs.Mcoded7.{encoded}
 use Rattle.pe_mcoded7.proofs.groups.encode_into.Given as goal
 
-abbrev pub invariant-loop-i : goal.invariant-loop-i
-invariant-loop-i l =
-    (l.i ≤ length l.input)
-    × (l.at + (length l.input - l.i + (length l.input - l.i + 6) / 7) ≤ length l.initial.out)
-    × (put l.out l.at (encoded (drop l.i l.input)) ≡ put l.initial.out 0 (encoded l.input))
-    × (length l.out ≡ length l.initial.out)
-
-abbrev pub decreases-loop-i : goal.decreases-loop-i
-decreases-loop-i l = length l.input - l.i
+abbrev pub invariant-loop-group : goal.invariant-loop-group
+invariant-loop-group l = record {
+  next : (goal.iterator-loop-group).can_next l.group-iterator;
+  finite : (goal.iterator-loop-group).is_finite l.group-iterator;
+  size : chunks_size l.group-iterator ≡ 7;
+  room : l.at + length (encoded (chunks_rest l.group-iterator)) ≤ length l.initial.out;
+  left : put l.out l.at (encoded (chunks_rest l.group-iterator)) ≡ put l.initial.out 0 (encoded l.input);
+}

@@ -1,20 +1,10 @@
-use Rattle.std.proofs.Common.{get_or, eq-eqb, ne_eqb}
-use Rattle.pe_slot.proofs.MetaLaws.{nowhere, here, onward, absent}
+use Rattle.std.proofs.Common.{rules, tests, ◌∙◌}
+use Rattle.std.proofs.lemmas.Iterator.{YieldsList-from_slice}
+use Rattle.std.proofs.lemmas.Iterator.Search.{position_from_yields_List}
+use Rattle.pe_slot.proofs.MetaLaws.{place_words}
 use Rattle.pe_slot.proofs.meta.position.Goals as goal
 
-pub returns-then-index-i : goal.returns-then-index-i
-returns-then-index-i c =
-    let a = c.args in
-    let l = c.loop-i in
-    here a.index.now a.chunk_num l.i l.invariant c.loop-i-test.true c.loop-i-test.element_fits.fits
-    (rw (eq-eqb (get_or a.index.now l.i nowhere).chunk_num a.chunk_num c.if-index-i.true) tt)
-
-pub loop-i-preserved : goal.loop-i-preserved
-loop-i-preserved c =
-    let a = c.args in
-    let l = c.loop-i in
-    onward a.index.now a.chunk_num l.i l.invariant c.loop-i-test.true c.loop-i-test.element_fits.fits
-    (rw (ne_eqb (get_or a.index.now l.i nowhere).chunk_num a.chunk_num c.if-index-i.false) tt)
-
 pub returns : goal.returns
-returns c = absent c.args.index.now c.args.chunk_num c.loop-i.i c.loop-i.invariant c.loop-i-test.false
+returns c =
+    position_from_yields_List _ _ _ c.position.result c.position.ensures.ran (YieldsList-from_slice c.args.index.now cc) (λ x b q k. search (rules, tests))
+    ∙ place_words c.args.chunk_num c.args.index.now

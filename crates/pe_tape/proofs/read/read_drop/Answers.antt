@@ -1,15 +1,20 @@
+use Prim.Native.Nat.{◌+◌}
 use native.Mathlib.Omega.{arith}
-use mathlib.Core.Path.{refl}
 use Rattle.pe_tape.specs.Command.{drop_peer, read_drop}
-use Rattle.pe_tape.proofs.ReadLaws.{too_few, operand_read}
+use Rattle.pe_tape.proofs.OperandLaws.{number_read}
+use Rattle.pe_tape.proofs.ReadLaws.{cut_off, operand_read}
 use Rattle.pe_tape.proofs.read.read_drop.Goals as goal
 
-pub returns-then-tape-operands-lt-DROP_OPERANDS : goal.returns-then-tape-operands-lt-DROP_OPERANDS
+pub returns-in_err-operands-clause-result_value : goal.returns-in_err-operands-clause-result_value
 unfolding read_drop
-returns-then-tape-operands-lt-DROP_OPERANDS c = record { result_value = too_few 4 c.args.at c.args.tape.now _ c.if-tape-operands-lt-DROP_OPERANDS.true; within = tt }
+returns-in_err-operands-clause-result_value c =
+    let short = c.in_err-operands.ensures in
+    cut_off 4 c.args.at c.args.tape.now _ _ _ c.from_residual.ensures.1 short.1 (omega (arith, short.0))
 
-pub returns : goal.returns
+pub returns-clause-result_value : goal.returns-clause-result_value
 unfolding read_drop
-returns c =
+returns-clause-result_value c =
     let a = c.args in
-    record { result_value = operand_read 4 drop_peer a.at a.tape.now _ _ (omega arith) c.u32_at.ensures (omega arith); within = (refl, omega arith, omega arith, tt) }
+    let all = c.in_ok-operands.ensures in
+    operand_read 4 drop_peer a.at a.tape.now _ _ (omega (arith, all.0))
+    (number_read 3 (a.at + 1) a.tape.now c.in_ok-operands.field-0 _ all.0 all.1 c.from_le_bytes-peer.ensures) (omega arith)

@@ -1,29 +1,54 @@
-use Prim.Native.Nat.{◌+◌, ◌-◌, ◌<◌}
+use Prim.Native.Nat.{◌+◌}
 use native.Mathlib.Omega.{arith}
-use mathlib.Core.Path.{◌≡◌, ap, ◌∙◌}
-use borrow.Author.Tests.{le-leb}
-use lib.ListN.{length, drop}
-use Rattle.pe_tape.specs.Number.{operand_of}
+use mathlib.Core.Path.{◌≡◌, ◌∙◌}
+use lib.ListN.{drop}
 use Rattle.pe_tape.specs.Command.{read_feed, chunk_len}
-use Rattle.pe_tape.proofs.ReadLaws.{behind, too_few, enough, feed_read}
+use Rattle.pe_tape.proofs.OperandLaws.{number_read}
+use Rattle.pe_tape.proofs.ReadLaws.{operand_behind, cut_off, too_few, enough, feed_read}
 use Rattle.pe_tape.proofs.read.read_feed.Goals as goal
+use Rattle.pe_tape.proofs.read.read_feed.Goals.{After-from_le_bytes-chunk_len}
 
-pub returns-then-tape-operands-lt-FEED_OPERANDS : goal.returns-then-tape-operands-lt-FEED_OPERANDS
-unfolding read_feed
-returns-then-tape-operands-lt-FEED_OPERANDS c = record { result_value = too_few 14 c.args.at c.args.tape.now _ c.if-tape-operands-lt-FEED_OPERANDS.true; within = tt }
-
-pub returns-then-tape-chunk_at : goal.returns-then-tape-chunk_at
-unfolding read_feed
-returns-then-tape-chunk_at c =
+-- how long the chunk is
+counted : (c : After-from_le_bytes-chunk_len) → c.from_le_bytes-chunk_len.result ≡ chunk_len (drop (c.args.at + 1) c.args.tape.now)
+counted c =
     let a = c.args in
-    let n : c.u16_at-chunk_len.result ≡ chunk_len (drop (a.at + 1) a.tape.now) =
-    c.u16_at-chunk_len.ensures ∙ ap operand_of (behind (a.at + 1) 12 2 a.tape.now) in
-    let h : length a.tape.now - (a.at + 1) < 14 + chunk_len (drop (a.at + 1) a.tape.now) = omega (arith, n, c.if-tape-chunk_at.true) in
-    record { result_value = enough 14 a.at a.tape.now _ _ (omega arith) (too_few (14 + chunk_len (drop (a.at + 1) a.tape.now)) a.at a.tape.now _ h); within = tt }
+    let two = c.in_ok-operands-3.ensures in
+    number_read 1 (a.at + 13) a.tape.now c.in_ok-operands-3.field-0 _ two.0 two.1 c.from_le_bytes-chunk_len.ensures
+    ∙ operand_behind (a.at + 1) 12 2 (a.at + 13) a.tape.now (omega arith)
 
-pub returns : goal.returns
-returns c =
+pub returns-in_err-operands-clause-result_value : goal.returns-in_err-operands-clause-result_value
+unfolding read_feed
+returns-in_err-operands-clause-result_value c =
+    let short = c.in_err-operands.ensures in
+    cut_off 14 c.args.at c.args.tape.now _ _ _ c.from_residual.ensures.1 short.1 (omega (arith, short.0))
+
+pub returns-in_err-operands-2-clause-result_value : goal.returns-in_err-operands-2-clause-result_value
+unfolding read_feed
+returns-in_err-operands-2-clause-result_value c =
+    let short = c.in_err-operands-2.ensures in
+    cut_off 14 c.args.at c.args.tape.now _ _ _ c.from_residual-in_err-operands-2.ensures.1 short.1 (omega (arith, short.0))
+
+pub returns-in_err-operands-3-clause-result_value : goal.returns-in_err-operands-3-clause-result_value
+unfolding read_feed
+returns-in_err-operands-3-clause-result_value c =
+    let short = c.in_err-operands-3.ensures in
+    cut_off 14 c.args.at c.args.tape.now _ _ _ c.from_residual-in_err-operands-3.ensures.1 short.1 (omega (arith, short.0))
+
+pub returns-then-tape-chunk_at-clause-result_value : goal.returns-then-tape-chunk_at-clause-result_value
+unfolding read_feed
+returns-then-tape-chunk_at-clause-result_value c =
     let a = c.args in
-    let u = c.u16_at-chunk_len in
-    let fits = c.if-tape-chunk_at.false in
-    let n : u.result ≡ chunk_len (drop (a.at + 1) a.tape.now) = u.ensures ∙ ap operand_of (behind (a.at + 1) 12 2 a.tape.now) in record { result_value = feed_read a.at a.tape.now u.result _ _ (omega (arith, fits)) n c.u32_at.ensures c.u64_at.ensures; within = (le-leb (a.at + 1 + 14 + u.result) (length a.tape.now) (omega (arith, fits)), omega arith, omega (arith, fits), omega arith) }
+    let n = counted (goal.at.returns-then-tape-chunk_at-clause-result_value c).After-from_le_bytes-chunk_len in
+    let two = c.in_ok-operands-3.ensures in
+    enough 14 a.at a.tape.now _ _ (omega (arith, two.0)) (too_few _ a.at a.tape.now _ (omega (arith, n, c.if-tape-chunk_at.true)))
+
+pub returns-clause-result_value : goal.returns-clause-result_value
+returns-clause-result_value c =
+    let a = c.args in
+    let n = counted (goal.at.returns-clause-result_value c).After-from_le_bytes-chunk_len in
+    let four = c.in_ok-operands.ensures in
+    let eight = c.in_ok-operands-2.ensures in
+    let two = c.in_ok-operands-3.ensures in
+    feed_read a.at a.tape.now _ _ _ (omega (arith, two.0, c.if-tape-chunk_at.false)) n
+    (number_read 3 (a.at + 1) a.tape.now c.in_ok-operands.field-0 _ four.0 four.1 c.from_le_bytes-peer.ensures)
+    (number_read 7 (a.at + 5) a.tape.now c.in_ok-operands-2.field-0 _ eight.0 eight.1 c.from_le_bytes-now_ms.ensures)

@@ -1,15 +1,20 @@
+use Prim.Native.Nat.{◌+◌}
 use native.Mathlib.Omega.{arith}
-use mathlib.Core.Path.{refl}
 use Rattle.pe_tape.specs.Command.{poll, read_poll}
-use Rattle.pe_tape.proofs.ReadLaws.{too_few, operand_read}
+use Rattle.pe_tape.proofs.OperandLaws.{number_read}
+use Rattle.pe_tape.proofs.ReadLaws.{cut_off, operand_read}
 use Rattle.pe_tape.proofs.read.read_poll.Goals as goal
 
-pub returns-then-tape-operands-lt-POLL_OPERANDS : goal.returns-then-tape-operands-lt-POLL_OPERANDS
+pub returns-in_err-operands-clause-result_value : goal.returns-in_err-operands-clause-result_value
 unfolding read_poll
-returns-then-tape-operands-lt-POLL_OPERANDS c = record { result_value = too_few 8 c.args.at c.args.tape.now _ c.if-tape-operands-lt-POLL_OPERANDS.true; within = tt }
+returns-in_err-operands-clause-result_value c =
+    let short = c.in_err-operands.ensures in
+    cut_off 8 c.args.at c.args.tape.now _ _ _ c.from_residual.ensures.1 short.1 (omega (arith, short.0))
 
-pub returns : goal.returns
+pub returns-clause-result_value : goal.returns-clause-result_value
 unfolding read_poll
-returns c =
+returns-clause-result_value c =
     let a = c.args in
-    record { result_value = operand_read 8 poll a.at a.tape.now _ _ (omega arith) c.u64_at.ensures (omega arith); within = (refl, omega arith, omega arith, tt) }
+    let all = c.in_ok-operands.ensures in
+    operand_read 8 poll a.at a.tape.now _ _ (omega (arith, all.0))
+    (number_read 7 (a.at + 1) a.tape.now c.in_ok-operands.field-0 _ all.0 all.1 c.from_le_bytes-now_ms.ensures) (omega arith)

@@ -2,27 +2,15 @@ use mathlib.Core.Path.{◌≡◌, sym, ◌∙◌}
 use Prim.Native.Nat.{◌+◌}
 use lib.ListN.{length, length-append}
 use native.Mathlib.Omega.{arith}
-use mathlib.Core.Bool.{true, false}
+use mathlib.Core.Bool.{true}
 use mathlib.Core.List.{◌++◌}
-use borrow.Author.Tests.{le-leb, lt-leb}
+use borrow.Author.Tests.{le-leb}
 use Rattle.seven_bit.proofs.PartLaws.{put_front}
 use Rattle.seven_bit.proofs.ReplyLaws.{wrote}
 use Rattle.midici_core.specs.Header.{within28, header_of, bytes_of_header}
 use Rattle.midici_core.specs.Message.{write_message}
 use Rattle.midici_core.proofs.HeaderLaws.{header_length}
 use Rattle.midici_core.proofs.pe_msg.PeMessage.encode.Goals as goal
-
-pub returns-then-not-muids_fit : goal.returns-then-not-muids_fit
-unfolding write_message
-returns-then-not-muids_fit c =
-    let e : within28 (header_of c.args.header) ≡ false = sym c.muids_fit.ensures ∙ c.if-not-muids_fit.true in
-    rw e
-
-pub returns-then-out-total : goal.returns-then-out-total
-unfolding write_message
-returns-then-out-total c =
-    let e : within28 (header_of c.args.header) ≡ true = sym c.muids_fit.ensures ∙ c.if-not-muids_fit.false in
-    rw (e, lt-leb _ _ c.if-out-total.true)
 
 pub returns : goal.returns
 unfolding write_message
