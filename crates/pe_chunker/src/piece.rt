@@ -29,7 +29,7 @@ fn body_part(chunks: u16, header_len: usize, body_len: usize, later: usize) -> u
 
 impl<'a> CutList<'a> {
     // Stores chunk number chunk_num at a place of out where it fits, and returns its length.
-    pub fn put_piece(self, chunk_num: u16, out: &mut [u8], at: usize) -> usize
+    pub(crate) fn put_piece(self, chunk_num: u16, out: &mut [u8], at: usize) -> usize
         requires cut { IsCut self }
         requires number { (1 ≤ chunk_num) × (chunk_num ≤ self.num_chunks) }
         ensures length { result ≡ chunk_len (chunk_in self.entry chunk_num) }

@@ -21,6 +21,9 @@ struct Unit {
     next: usize,
 }
 
+// The unit of an escape of one letter. Escapes are rare: this and `hex_pair` are kept out of the loops that read names. (`escaped_at` kept out as a
+// whole made names of many escapes slower, since its answer goes through memory.)
+#[inline(never)]
 #[tactic(auto, unfolding(crate::specs::Find::short_unit))]
 fn short_unit(c: u8) -> u32
     ensures upper_bound { result < 256 }
@@ -47,6 +50,7 @@ fn hex_value(b: u8) -> u32
 }
 
 // Two hexadecimal digits.
+#[inline(never)]
 fn hex_pair(text: &[u8], at: usize) -> u32
     requires { at + 1 < length text.now }
     ensures upper_bound { result < 409 }
@@ -55,9 +59,7 @@ fn hex_pair(text: &[u8], at: usize) -> u32
     hex_value(text[at]) * 16 + hex_value(text[at + 1])
 }
 
-// The unit of an escape, from behind its reverse solidus; None if there is none. Escapes are rare, and kept out of the loops that read names.
-#[cold]
-#[inline(never)]
+// The unit of an escape, from behind its reverse solidus; None if there is none.
 fn escaped_at(table: &[u8; 3840], text: &[u8], at: usize) -> Option<Unit>
     requires { RightTable table.now × (at ≤ length text.now) }
     ensures within { IfSome result (λ u. (at ≤ u.next) × (u.next ≤ length text.now) × (u.unit < 131072)) }

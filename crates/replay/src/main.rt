@@ -177,10 +177,12 @@ fn write(op: u8, s: &[u8], out: &mut [u8]) -> Answer {
     }
 }
 
-// The output has as much room as the input says, up to 256 bytes.
+// The output has as much room as the input says; where that is more than 256 bytes, nothing is printed.
 fn play_writer(to: &mut impl Write, op: u8, s: &[u8]) -> io::Result<()> {
     let mut space = [0xEEu8; 256];
-    let out = &mut space[..(u16_at(s, 0) as usize).min(256)];
+    let Some(out) = space.get_mut(..u16_at(s, 0) as usize) else {
+        return Ok(());
+    };
     let answer = write(op, s, out);
     print_answer(to, answer)?;
     print_out(to, out)
@@ -200,7 +202,7 @@ fn muid_encode(to: &mut impl Write, s: &[u8]) -> io::Result<()> {
     Ok(())
 }
 
-// Up to five words.
+// Up to five words; where there are more, no value is printed.
 fn muid_generate(to: &mut impl Write, s: &[u8]) -> io::Result<()> {
     let words = [
         u32_at(s, 0),
@@ -209,7 +211,10 @@ fn muid_generate(to: &mut impl Write, s: &[u8]) -> io::Result<()> {
         u32_at(s, 12),
         u32_at(s, 16),
     ];
-    let generated = codec_exports::ci::codec_muid_generate(&words[..(s.len() / 4).min(5)]);
+    let Some(drawn) = words.get(..s.len() / 4) else {
+        return Ok(());
+    };
+    let generated = codec_exports::ci::codec_muid_generate(drawn);
     print_flag(to, generated.found)?;
     print_value(to, generated.number as u64)
 }
@@ -252,7 +257,10 @@ fn play_message(to: &mut impl Write, s: &[u8]) -> io::Result<()> {
     }
     print_header(to, answer.header)?;
     let payload = from(s, answer.payload_at as usize);
-    print_out(to, first(payload, answer.payload_len as usize))
+    let Some(payload) = payload.get(..answer.payload_len as usize) else {
+        return Ok(());
+    };
+    print_out(to, payload)
 }
 
 // Header and property are shown as the output.
